@@ -378,14 +378,33 @@ def what_was_used():
         told("--by user", ann, bob, eve, none)
         told("--by host", "h1 jobs 1 sent 11 printed 11", "h2 jobs 1 sent 3 printed 3", "h3 jobs 1 sent 8 printed 0", none)
         told("--by queue", "lp jobs 4 sent 22 printed 14")
-        told("--csv", "user,jobs,sent,printed", "ann lee,1,11,11", "bob,1,3,3", "eve,1,8,0", "-,1,0,0")
-        told("--by host --csv --since 2026-11-27T00:00:00Z", "host,jobs,sent,printed", "h3,1,8,0", "-,1,0,0")
+        told("--csv", "user,jobs,sent,printed", "ann lee,1,11,11", "bob,1,3,3", "eve,1,8,0", "'-,1,0,0")
+        told("--by host --csv --since 2026-11-27T00:00:00Z", "host,jobs,sent,printed", "h3,1,8,0", "'-,1,0,0")
         # a job that goes over the end of a segment counts where it ends, and its octets where they came
         told("--until 2026-11-26T22:00:05Z", ann)
         told("--since 2026-11-26T22:00:10Z", bob, eve, none)
         told("--since 2026-11-26T22:00:10Z --until 2026-11-26T23:00:00Z", bob)
         told("--since 2026-11-27T22:00:10Z")
         return "all columns"
+
+
+def names_are_no_formulas():
+    """What strangers call themselves comes into a spreadsheet as text: with a `'` in front where it begins as a formula does."""
+    names = {"=1+1": "'=1+1", "+1": "'+1", "-1": "'-1", "@a": "'@a", "%09a": "'\ta", "%0Da": "\"'\ra\"", "a=1": "a=1", "'a": "'a", "%20=1": " =1", "%25": "%"}
+    with tempfile.TemporaryDirectory() as folder:
+        lines = []
+        for number, name in enumerate(names, 1):
+            lines += [f"opened {number} 0 1", f"controlled {number} part 1 h1 {name} dfA001h1", f"aborted {number}"]
+        segment(f"{folder}/one", ["account 2 1 1 2026-11-26T22:00:00Z 2026-11-26T22:00:09Z first", "config 4 8 8 100000 lp 3 1", "printer file:a.out 0",
+                                  "base 0 0 0 0 0 open running"], lines)
+        ran = subprocess.run([PROGRAM, "usage", f"{folder}/one", "--csv"], capture_output=True, timeout=60)
+        check(ran.returncode == 0, f"{ran}")
+        rows = ran.stdout.decode().split("\n")
+        check(sorted(rows) == sorted(["user,jobs,sent,printed", "", *(f"{cell},1,0,0" for cell in names.values())]), f"{rows}")
+        # lines that are no table have them as they are, by their digits
+        ran = subprocess.run([PROGRAM, "usage", f"{folder}/one"], capture_output=True, text=True, timeout=60)
+        check("=1+1 jobs 1 sent 0 printed 0\n" in ran.stdout.splitlines(True), f"{ran}")
+        return f"{len(names)} names"
 
 
 def a_printer_that_moves():
@@ -503,7 +522,7 @@ def write_segment(path, run, previous, entries):
     return count
 
 
-SCENES = [written_and_audited, changed_files_are_told, folders, what_was_used, a_printer_that_moves, a_last_segment_that_goes_on, a_full_disk, hostile_files, a_long_account]
+SCENES = [written_and_audited, changed_files_are_told, folders, what_was_used, names_are_no_formulas, a_printer_that_moves, a_last_segment_that_goes_on, a_full_disk, hostile_files, a_long_account]
 
 if __name__ == "__main__":
     sys.exit(main(SCENES, __doc__))

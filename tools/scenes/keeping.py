@@ -216,12 +216,11 @@ def killed_at_random():
             sender.stops = True
         for thread in threads:
             thread.join(30)
-        # The queue of the full device is started again ever later by itself.
-        for _ in range(240):
-            if not room.files("job"):
-                break
+        # The queue of the full device is started again ever later by itself, for one job each time: hundreds wait for it in the folder.
+        until = time.monotonic() + 300
+        while room.files("job") and time.monotonic() < until:
             room.tell("start", "bad")
-            time.sleep(0.5)
+            time.sleep(0.05)
         check(not room.files("job"), f"seed {seed}: {room.files('job')[:5]} stay: {room.log()[-900:]}")
         told = room.tell("stop", "20")
         check("end done" in told or told == "", told)

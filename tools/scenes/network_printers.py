@@ -87,7 +87,7 @@ def until(limit, holds):
 
 def a_printed_job_is_done():
     """However a printer ends its connections, of each job that it has read to its end the log, the metrics, the account and the folder of `--spool`
-    say that it is done, and no file stays; a printer that ended none of three connections isn't waited for any more, and its jobs are done too."""
+    say that it is done, the page has the doubt at the printer, and no file stays; a printer that ended none of three connections isn't waited for any more, and its jobs are done too."""
     count = 4 if SHORT else 6
     names = [end.__name__ for end in ENDS]
     printers = [Printer(end) for end in ENDS]
@@ -110,6 +110,13 @@ def a_printed_job_is_done():
             page = urllib.request.urlopen(f"http://127.0.0.1:{status}/metrics", timeout=10).read().decode()
             done, failed = (int(re.search(rf"^hurgwaye_jobs_{how}_total (\d+)$", page, re.M)[1]) for how in ("done", "failed"))
             check((done, failed) == (count * len(names), 0), f"metrics: done {done}, failed {failed}")
+            # (a printer that ends its connections as printers do leaves no doubt, and one that did later has none any more)
+            page = urllib.request.urlopen(f"http://127.0.0.1:{status}/", timeout=10).read().decode()
+            cards = {name: page[page.index(f"<bdi>{name}</bdi>", page.index('id="queues"')):] for name in names}
+            for name in names:
+                card = cards[name][:cards[name].index("</section>")]
+                has_doubt = "was printed, but its last octets may not have come" in card
+                check(has_doubt == (name != "at_once"), f"{name}: {card}")
             subprocess.run([PROGRAM, "control", f"{room}/control", "stop"], check=True, timeout=60, stdout=subprocess.DEVNULL)
             it.process.wait(30)
         left = sorted(os.path.basename(path) for path in glob.glob(f"{room}/kept/*") if path.endswith((".job", ".failed", ".tmp")))

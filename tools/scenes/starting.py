@@ -164,6 +164,107 @@ def a_pipe_in_the_place_of_a_job():
                 time.sleep(0.05)
     return "both are told, and nothing waits"
 
+CONFIG = """pages = 64
+page_size = 4096
+max_jobs = 8
+account = 100000
+
+[[queue]]
+name = "front"
+limit = 16
+printers = 1
+
+[[queue]]
+name = "back"
+limit = 16
+printers = 2
+"""
+
+
+def a_configuration_tells_where_its_fault_is():
+    """Of each fault of a configuration: the line, the queue, and what is wrong there; and each key that isn't one. By `check` and by `serve`."""
+    cases = [
+        (("limit = 16", "limt = 16"), "fault 51 Missing queue.limit", r"line 6, queue front: limit isn't there: a whole number, 1 to 65536$"),
+        (("printers = 2", ""), "fault 51 Missing queue.printers", r"line 11, queue back: printers isn't there"),
+        (("max_jobs = 8", ""), "fault 51 Missing max_jobs", r"max_jobs isn't there: a whole number, 1 to 1024$"),
+        (("pages = 64", 'pages = "64"'), "fault 52 WrongType pages", r'line 1: pages is "64", and has to be a whole number, 1 to 65536$'),
+        ((CONFIG[CONFIG.index("[[queue]]"):], "[queue]\nname = 3\n"), "fault 52 WrongType queue", r"queue has to be 1 to 64 tables, each of which begins with \[\[queue\]\]"),
+        (('"back"', '"back desk"'), "fault 53 OutOfRange queue.name", r'line 12, queue back%20desk: name is "back%20desk", and has to be a text of 1 to 64 octets'),
+        (("printers = 2", "printers = 0"), "fault 53 OutOfRange queue.printers", r"line 14, queue back: printers is 0, and has to be a whole number, 1 to 16$"),
+        (('"back"', '"front"'), "fault 54 SameName", r"queues number 1 and 2 are both named front$"),
+        (("limit = 16\nprinters = 2", "limit = 65\nprinters = 2"), "fault 55 LimitOverPool", r"line 13, queue back: limit is 65, and the pool has 64 pages$"),
+        (("page_size = 4096", "page_size = 4K"), "fault 50 NotToml", r"line 2: "),
+        (("printers = 2", 'printers = 2\nplaces = "file:x"'), "fault 52 WrongType queue.places", r"line 15, queue back: places has to be an array of texts"),
+        (("printers = 2", 'printers = 2\nplaces = ["ipp://x"]'), "fault 53 OutOfRange queue.places", r'line 15, queue back: "ipp://x" is no place'),
+        (("printers = 2", 'printers = 2\nplaces = ["file:a", "file:b", "file:c"]'), "fault 53 OutOfRange queue.places", r"places has 3 texts, more than the queue has"),
+    ]
+    with tempfile.TemporaryDirectory() as room:
+        for (old, text), fault, told in cases:
+            with open(f"{room}/spool.toml", "w") as file:
+                file.write(CONFIG.replace(old, text, 1))
+            for words in (["check", "spool.toml"], ["serve", "spool.toml", "--port", str(free_port())]):
+                ended, lines = run(room, *words)
+                said = f"{words[0]} {text!r}: {ended} {lines}"
+                check(ended == 2 and lines[-1].endswith(fault), said)
+                check(any(re.search(told, line) for line in lines[:-1]), said)
+                if text == "limt = 16":
+                    check(any("spool.toml: line 8: limt is no key of a queue, and is passed over" in line for line in lines[:-1]), said)
+        # A script's fault stays one line.
+        for name, text in (("spool.toml", CONFIG.replace("pages = 64", "pages = 0")), ("script", "")):
+            with open(f"{room}/{name}", "w") as file:
+                file.write(text)
+        ended, lines = run(room, "replay", "spool.toml", "script")
+        check((ended, len(lines)) == (2, 1), f"replay: {ended} {lines}")
+    return f"{len(cases)} faults, by check and by serve"
+
+
+def keys_that_are_none_are_told():
+    """A key that isn't one is passed over, and told: of 16 at most."""
+    with tempfile.TemporaryDirectory() as room:
+        with open(f"{room}/spool.toml", "w") as file:
+            file.write("restart = 60\n" + CONFIG + "colour = true\n")
+        ended, lines = run(room, "check", "spool.toml")
+        check(ended == 0 and len(lines) == 2, f"{ended} {lines}")
+        check("spool.toml: line 1: restart is no key, and is passed over" in lines[0], lines)
+        check("spool.toml: line 16: colour is no key of a queue, and is passed over" in lines[1], lines)
+        with open(f"{room}/spool.toml", "w") as file:
+            file.write("".join(f"key{number} = 1\n" for number in range(40)) + CONFIG)
+        ended, lines = run(room, "check", "spool.toml")
+        check(ended == 0 and len(lines) == 16, f"{ended} {len(lines)}")
+    return "two by their lines; 16 of 40"
+
+
+def sizes_of_a_queue_that_takes_no_job():
+    """`check --sizes` ends with status 2 where the account has no room for a job of some queue, and tells no fault; without the option all is well."""
+    with tempfile.TemporaryDirectory() as room:
+        with open(f"{room}/spool.toml", "w") as file:
+            file.write(CONFIG.replace("account = 100000", "account = 1000"))
+        check(run(room, "check", "spool.toml", "--sizes") == (2, []), run(room, "check", "spool.toml", "--sizes"))
+        check(run(room, "check", "spool.toml") == (0, []), "without --sizes")
+    return "status 2 and no line"
+
+
+def printers_are_looked_at():
+    """A folder in which no file can be made is found at the start; a file that two servers, or two printers, write to is warned of; and so is a printer
+    without a place, where others have one."""
+    with tempfile.TemporaryDirectory() as room:
+        with open(f"{room}/spool.toml", "w") as file:
+            file.write(CONFIG)
+        serve = ["serve", "spool.toml", "--port", str(free_port())]
+        # (in /proc nobody makes a file)
+        fails(room, [*serve, "--printer", "front=folder:/proc"], 4, "fault 73 WriteFile /proc", r"/proc: ")
+        with Server(PROGRAM, CONFIG, "--keep-room", "--printer", f"1=file:{room}/one", "--printer", f"3=file:{room}/one", printers=2, device=None) as it:
+            lines = it.log().splitlines()
+            shared = [line for line in lines if f"printer 3: {room}/one: another server or printer writes to it too" in line]
+            unplaced = [line for line in lines if f"printer 2 of back has no place, where others have one: it prints to {it.folder}/printer-2" in line]
+            check(len(shared) == 1 and len(unplaced) == 1, lines)
+            with Server(PROGRAM, CONFIG, "--keep-room", "--printer", f"front=file:{room}/one", "--printer", "2=file:/dev/null", "--printer", "3=file:/dev/null") as other:
+                lines = other.log().splitlines()
+                check(sum("writes to it too" in line for line in lines) == 1 and not any("has no place" in line for line in lines), lines)
+    return "a folder, a file of two printers and of two servers, a printer without a place"
+
+
 
 if __name__ == "__main__":
-    sys.exit(main([a_pipe_in_the_place_of_a_job, a_start_tells_why_it_failed, a_command_tells_why_it_failed, a_refusal_tells_what_it_may_mean, a_start_warns_of_what_bites_later], __doc__))
+    sys.exit(main([a_configuration_tells_where_its_fault_is, keys_that_are_none_are_told, sizes_of_a_queue_that_takes_no_job, printers_are_looked_at,
+                   a_pipe_in_the_place_of_a_job, a_start_tells_why_it_failed, a_command_tells_why_it_failed, a_refusal_tells_what_it_may_mean, a_start_warns_of_what_bites_later], __doc__))

@@ -17,7 +17,7 @@ use config_values::Config;
 use lpd_values::Octets;
 use program_edge::StreamWriter;
 use segment_text::{Begin, Head, HeadPrinter, Origin, Start, Version, is_before};
-use server_folder::{FILE_MODE, FolderUse};
+use server_folder::{FILE_MODE, FolderHold, FolderUse};
 use std::alloc::Global;
 use std::fmt::{Display, Formatter, Write};
 use std::fs::{File, Files, OpenOptions};
@@ -67,7 +67,7 @@ pub struct AccountFolder {
     path: String,
     folder: File,
     // Held while the server has the folder.
-    _lock: File,
+    _hold: FolderHold,
     // The name of the next file, if there may be one.
     next: Option<SegmentName>,
     // When the segment in hand was begun, and when it was closed.
@@ -135,7 +135,7 @@ impl AccountFolder {
         printers: Vec<HeadPrinter>,
         begun: SystemTime,
     ) -> Result<AccountFolder, AccountOpenError> {
-        let lock = server_folder::take(rt, alloc, FolderUse::Account, path)?;
+        let hold = server_folder::take(rt, alloc, FolderUse::Account, path)?;
         let listing = list(rt, alloc, path)?;
         for name in &listing.left {
             let path = format!(in alloc; "{path}/{name}.tmp").map_err(io::Error::from)?;
@@ -146,7 +146,7 @@ impl AccountFolder {
             alloc,
             path: String::from_str(alloc, path).map_err(io::Error::from)?,
             folder: File::open(rt, path)?,
-            _lock: lock,
+            _hold: hold,
             next: Some(next.name),
             begun,
             closed: begun,

@@ -4,6 +4,7 @@ ghost use Rattle.std.specs.Prelude.{◌≡◌, ◌≤◌, ◌⊎◌, ◌^◌};
 ghost use Rattle.segment_text.specs.Streams.{HasReadAtMost};
 
 use crate::auditing::ended;
+use crate::cells::name_cell;
 use crate::fault::ReportFault;
 use crate::files::{TakeLines, take_files};
 use crate::notes::write_text;
@@ -146,13 +147,13 @@ fn heading(by: Grouping) -> &'static str {
     }
 }
 
-/// The fields of a row: its name as it is, and its numbers.
+/// The fields of a row: its name as spreadsheets show it, and its numbers.
 fn fields_of(alloc: Global, name: &[u8], totals: &Totals) -> Result<[Octets; 4], AllocError> {
     let jobs = format!(in alloc; "{}", totals.jobs)?;
     let sent = format!(in alloc; "{}", totals.sent)?;
     let printed = format!(in alloc; "{}", totals.printed)?;
     Ok([
-        Octets::copy_of(alloc, name)?,
+        name_cell(alloc, name)?,
         Octets::copy_of(alloc, jobs.as_bytes())?,
         Octets::copy_of(alloc, sent.as_bytes())?,
         Octets::copy_of(alloc, printed.as_bytes())?,

@@ -2,6 +2,7 @@
 #![tactic(auto)]
 
 mod auditing;
+mod cells;
 mod counting;
 mod fault;
 mod files;

@@ -10,7 +10,7 @@ ghost use Rattle.std.specs.Prelude.{◌≡◌};
 ghost use Rattle.std.specs.Net.Socket.{socket_ip};
 ghost use Rattle.connection_lobby.specs.Doorway.{is_in_one, may_come, speaks_for_others};
 
-use crate::throttle::{AGAIN_SECONDS, Throttle};
+use crate::throttle::{Closing, Throttle};
 use program_edge::Network;
 use std::alloc::Global;
 use std::net::{IpAddr, Ipv4Addr, SocketAddr};
@@ -40,17 +40,7 @@ impl Doorway {
         Doorway {
             allowed,
             proxied,
-            refused: Throttle::new(alloc),
-        }
-    }
-
-    /// For how many milliseconds at most a round waits: for ever where no line about a host is to
-    /// come.
-    pub(crate) fn patience_ms(&self) -> u64 {
-        if self.refused.is_waiting() {
-            AGAIN_SECONDS * 1_000
-        } else {
-            u64::MAX
+            refused: Throttle::new(alloc, Closing::NotLetIn),
         }
     }
 

@@ -20,6 +20,7 @@ ghost use Rattle.std.specs.Fmt.{decimal};
 use crate::desk::Desk;
 use crate::doorway::Doorway;
 use crate::headers::{HeaderFault, HeaderWord};
+use crate::throttle::{Closing, Throttle};
 use crate::waiting_room::{Caller, Ready, Visit, WaitingRoom};
 use log::{Log, warn};
 use mio::unix::SourceFd;
@@ -93,6 +94,8 @@ pub struct Lobby {
     pause_ms: Option<u64>,
     closed: u64,
     doorway: Doorway,
+    // Who was closed for want of room within a minute.
+    crowded: Throttle,
     // When it was last looked at which headers are late.
     looked: Option<Instant>,
 }
@@ -134,6 +137,7 @@ impl Lobby {
             // The first round accepts.
             pause_ms: Some(0),
             closed: 0,
+            crowded: Throttle::new(alloc, Closing::WantOfRoom),
             doorway,
             looked: None,
         };
@@ -169,6 +173,12 @@ impl Lobby {
         self.room.callers.len().saturating_sub(self.room.free.len()) as u64
     }
 
+    /// The descriptor at which there is something to read once a round would find something: for a thread that waits for more than the
+    /// lobby.
+    pub fn descriptor(&self) -> RawFd {
+        self.poll.as_raw_fd()
+    }
+
     /// Accepts no connection any more, and closes those that wait.
     pub fn close(&mut self, alloc: Global)
         ensures left { self.new.left ≡ 0 }
@@ -188,15 +198,16 @@ impl Lobby {
     }
 
     /// Where no place is free, the oldest connection without its first line is closed.
-    fn make_place<R: Log>(&mut self, rt: &R) {
+    fn make_place<R: Clock + Log>(&mut self, rt: &R) {
         let Some(at) = self.room.who_makes_place() else {
             return;
         };
         if let Some(caller) = self.release(at) {
-            let peer = caller.peer;
+            let (peer, host) = (caller.peer, caller.host());
             drop(caller);
             self.closed = self.closed.saturating_add(1);
-            tell(rt, &peer, &WantOfRoom(self.closed));
+            let why = WantOfRoom(self.closed);
+            self.crowded.close(rt, peer, host, &why);
         }
     }
 
@@ -204,7 +215,9 @@ impl Lobby {
     fn turn_away<R: Clock + Log>(&mut self, rt: &R, caller: Caller) {
         let (peer, host) = (caller.peer, caller.host());
         drop(caller);
-        self.doorway.refused.refuse(rt, peer, host);
+        self.doorway
+            .refused
+            .close(rt, peer, host, &"its address isn't let in");
     }
 
     /// Closes the connection at a place for its header.
@@ -393,7 +406,8 @@ impl Lobby {
     ) -> io::Result<()> {
         let pause_ms = self.pause_ms.unwrap_or(u64::MAX);
         let pause_ms = pause_ms.min(limit_ms.unwrap_or(u64::MAX));
-        let pause_ms = pause_ms.min(self.doorway.patience_ms());
+        let pause_ms = pause_ms.min(self.doorway.refused.patience_ms());
+        let pause_ms = pause_ms.min(self.crowded.patience_ms());
         let pause_ms = if self.room.headers > 0 {
             pause_ms.min(HEADER_LOOK_MS)
         } else {
@@ -402,6 +416,7 @@ impl Lobby {
         let patience = (pause_ms < u64::MAX).then_some(Duration::from_millis(pause_ms));
         self.poll.poll(&mut self.events, patience)?;
         self.doorway.refused.tell_again(rt);
+        self.crowded.tell_again(rt);
         self.close_late(rt);
         let mut accepts = self.pause_ms.is_some();
         self.heard.clear();

@@ -1,4 +1,4 @@
-//! Lines about hosts that aren't let in, one a minute for each.
+//! Lines about hosts whose connections are closed, one a minute for each: they aren't let in, or there is no room for them.
 
 ghost use Rattle.std.specs.Prelude.{◌≤◌};
 ghost use Rattle.std.specs.VecDeque.{deque_len};
@@ -6,15 +6,42 @@ ghost use Rattle.std.specs.VecDeque.{deque_len};
 use log::{Log, warn};
 use std::alloc::Global;
 use std::collections::VecDeque;
+use std::fmt;
 use std::net::{Ipv4Addr, SocketAddr};
 use std::rt::Clock;
 use std::time::Instant;
 
-/// The part of the program that logs what happens here, as the log names it.
-const PART: &str = "server_edge::throttle";
+/// Why connections are closed.
+#[derive(Clone, Copy)]
+pub(crate) enum Closing {
+    /// Their addresses aren't let in.
+    NotLetIn,
+    /// As many wait as may.
+    WantOfRoom,
+}
+
+impl Closing {
+    /// The part of the program that tells of them, as the log names it.
+    fn part(self) -> &'static str {
+        match self {
+            Closing::NotLetIn => "server_edge::throttle",
+            Closing::WantOfRoom => "server_edge::lobby",
+        }
+    }
+}
+
+/// What was done with them.
+impl fmt::Display for Closing {
+    fn fmt<W: fmt::Write>(&self, f: &mut fmt::Formatter<W>) -> fmt::Result {
+        f.write_str(match self {
+            Closing::NotLetIn => "weren't let in",
+            Closing::WantOfRoom => "were closed for want of room",
+        })
+    }
+}
 
 /// The time from a line about a host to the next one, in seconds.
-pub(crate) const AGAIN_SECONDS: u64 = 60;
+const AGAIN_SECONDS: u64 = 60;
 
 /// The most hosts that are told apart. All further ones share a line.
 const MOST_HOSTS: usize = 1_024;
@@ -27,9 +54,10 @@ struct RefusedHost {
     more: u64,
 }
 
-/// Which hosts weren't let in within a minute.
+/// Whose connections were closed within a minute.
 #[derive(Drop)]
 pub(crate) struct Throttle {
+    closing: Closing,
     // The one whose line is the oldest stands first.
     hosts: VecDeque<RefusedHost>,
     // The connections of further hosts, and since when they are counted.
@@ -44,18 +72,23 @@ fn is_old<R: Clock>(rt: &R, told: Instant) -> bool {
 }
 
 impl Throttle {
-    /// None yet.
-    pub(crate) fn new(alloc: Global) -> Throttle {
+    /// None yet, of those that are closed so.
+    pub(crate) fn new(alloc: Global, closing: Closing) -> Throttle {
         Throttle {
+            closing,
             hosts: VecDeque::new(alloc),
             others: 0,
             others_since: None,
         }
     }
 
-    /// Whether there are lines to come.
-    pub(crate) fn is_waiting(&self) -> bool {
-        !self.hosts.is_empty() || self.others_since.is_some()
+    /// For how many milliseconds at most a round waits: for ever where no line about a host is to come.
+    pub(crate) fn patience_ms(&self) -> u64 {
+        if self.hosts.is_empty() && self.others_since.is_none() {
+            u64::MAX
+        } else {
+            AGAIN_SECONDS * 1_000
+        }
     }
 
     /// Counts a connection of a host. Whether a line tells of it at once, as the first one of its
@@ -84,14 +117,19 @@ impl Throttle {
         false
     }
 
-    /// A connection of this host was closed, as it isn't let in: says so where it is the first one
-    /// in a minute. Without a clock nothing is said.
-    pub(crate) fn refuse<R: Clock + Log>(&mut self, rt: &R, peer: SocketAddr, host: u32) {
+    /// A connection of this host was closed for this: says so where it is the first one in a minute. Without a clock nothing is said.
+    pub(crate) fn close<R: Clock + Log, W: fmt::Display>(
+        &mut self,
+        rt: &R,
+        peer: SocketAddr,
+        host: u32,
+        why: &W,
+    ) {
         let Ok(now) = Instant::now(rt) else {
             return;
         };
         if self.count(now, host) {
-            warn!(rt; target: PART, "{peer}: its address isn't let in");
+            warn!(rt; target: self.closing.part(), "{peer}: {why}");
         }
     }
 
@@ -103,7 +141,8 @@ impl Throttle {
             return;
         }
         let address = Ipv4Addr::from_bits(host);
-        warn!(rt; target: PART, "{address}: {more} more connections weren't let in");
+        let closing = self.closing;
+        warn!(rt; target: closing.part(), "{address}: {more} more connections {closing}");
         if let Ok(told) = Instant::now(rt) {
             let _ = self.hosts.push_back(RefusedHost {
                 host,
@@ -125,8 +164,8 @@ impl Throttle {
             }
         }
         if self.others_since.is_some_and(|since| is_old(rt, since)) {
-            let others = self.others;
-            warn!(rt; target: PART, "{others} connections of other addresses weren't let in");
+            let (others, closing) = (self.others, self.closing);
+            warn!(rt; target: closing.part(), "{others} connections of other addresses {closing}");
             self.others = 0;
             self.others_since = None;
         }

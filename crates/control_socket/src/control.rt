@@ -37,6 +37,9 @@ const EVENTS: usize = 256;
 /// The milliseconds until the next try where a connection couldn't be accepted.
 const ACCEPT_PAUSE_MS: u64 = 100;
 
+/// How long the end waits for the lines of those who have connected, in milliseconds.
+const HEARING_MS: u64 = 200;
+
 /// A line that came, and its connection's number, under which it is answered.
 #[derive(Drop)]
 pub struct AskedLine {
@@ -284,14 +287,41 @@ impl ControlSocket {
         Ok(())
     }
 
-    /// The end: answers all that have asked and aren't answered yet with these octets, writes what is left of answers for `end_ms`
-    /// milliseconds at most, and closes all connections. Its file stays.
+    /// Hears those who have connected by now: accepts them, and waits for their lines for `HEARING_MS` milliseconds at most. An error where the
+    /// system doesn't tell what happened, or has no clock.
+    fn hear<R: Clock + Log>(&mut self, rt: &R) -> io::Result<()> {
+        let now = self.now_ms(rt)?;
+        let until = now.saturating_add(HEARING_MS);
+        for _ in 0..MOST_TALKS {
+            if !self.talks.has_room() {
+                break;
+            }
+            match self.listener.accept() {
+                Ok((stream, _)) => self.admit(rt, stream, now)?,
+                Err(_) => break,
+            }
+        }
+        for _ in 0..u64::MAX {
+            if !self.talks.has_asking() || self.look(rt, Some(until))? >= until {
+                break;
+            }
+        }
+        Ok(())
+    }
+
+    /// The end: hears those who have connected by now, answers all that have asked and aren't answered yet with these octets, writes what is left
+    /// of answers for `end_ms` milliseconds at most, and closes all connections. Its file stays.
     pub fn end<R: Clock + Log>(self, rt: &R, octets: &[u8]) {
         let mut socket = self;
         let listener = socket.listener.as_raw_fd();
         // Nothing happens where the system isn't asked about it.
         let _ = socket.poll.registry().deregister(&mut SourceFd(&listener));
         socket.accepting = Accepting::WhenTold;
+        // From here on who connects is told that no server answers, and nobody connects who isn't heard.
+        let _ = libc::net::shutdown(listener, libc::net::SHUT_RDWR);
+        if let Err(error) = socket.hear(rt) {
+            warn!(rt; "control socket: its last lines weren't read: {error}");
+        }
         socket.talks.answer_all(octets);
         if let Err(error) = socket.finish(rt) {
             warn!(rt; "control socket: its last answers weren't written: {error}");

@@ -6,6 +6,7 @@ mod answer;
 mod control;
 mod line;
 mod partings;
+mod reaching;
 mod signals;
 mod socket_file;
 mod stages;
@@ -13,6 +14,7 @@ mod talks;
 
 pub use control::{AskedLine, ControlSocket, OpenedSocket};
 pub use partings::TalkNumber;
+pub use reaching::{Waiting, connect_unix};
 pub use signals::{Pending, Signals, is_blocked, is_pending};
 pub use socket_file::{OpenFault, SocketFile};
 pub use stages::Times;

@@ -3,6 +3,7 @@
 ghost use Rattle.std.specs.Prelude.{◌≡◌};
 ghost use Rattle.control_socket.specs.declared.socket_file.OpenFault.TheVariants.{System};
 
+use crate::reaching::{Waiting, connect_unix};
 use std::alloc::{AllocError, Global};
 use std::fmt::Display;
 use std::fs::{Files, Metadata, Permissions};
@@ -10,7 +11,7 @@ use std::io::ErrorKind;
 use std::net::Net;
 use std::os::fd::{AsFd, AsRawFd};
 use std::os::unix::fs::{FileTypeExt, MetadataExt, PermissionsExt};
-use std::os::unix::net::{SocketAddr, UnixListener, UnixStream};
+use std::os::unix::net::{SocketAddr, UnixListener};
 use std::{fmt, fs, io};
 
 /// Its owner and its group may connect.
@@ -24,6 +25,8 @@ const BACKLOG: i32 = 128;
 pub enum OpenFault {
     /// A server answers at the path.
     Answered,
+    /// A process listens at the path, and all places in its backlog are taken.
+    Full,
     /// The system doesn't give what it takes, or memory is refused.
     System(io::Error),
 }
@@ -32,6 +35,9 @@ impl Display for OpenFault {
     fn fmt<W: fmt::Write>(&self, f: &mut fmt::Formatter<W>) -> fmt::Result {
         match self {
             OpenFault::Answered => f.write_str("a server answers at the path"),
+            OpenFault::Full => {
+                f.write_str("a process listens at the path and takes no more connections")
+            }
             OpenFault::System(error) => write!(f, "{error}"),
         }
     }
@@ -64,10 +70,12 @@ fn is_socket<R: Files>(rt: &R, path: &str) -> bool {
     fs::symlink_metadata(rt, path).is_ok_and(|found| found.file_type().is_socket())
 }
 
-/// Removes the socket at a path at which nobody answers. `Answered` where somebody does. What is no socket stays.
+/// Removes the socket at a path at which nobody answers. `Answered` where somebody does, and `Full` where somebody would at another
+/// time: neither is waited for. What is no socket stays.
 fn remove_stale<R: Files + Net>(rt: &R, path: &str) -> Result<(), OpenFault> {
-    match UnixStream::connect(rt, path) {
+    match connect_unix(rt, path, Waiting::Never) {
         Ok(_) => Err(OpenFault::Answered),
+        Err(error) if error.kind() == ErrorKind::WouldBlock => Err(OpenFault::Full),
         Err(error) if error.kind() == ErrorKind::NotFound => Ok(()),
         Err(error) if error.kind() == ErrorKind::ConnectionRefused => {
             if is_socket(rt, path) {

@@ -214,6 +214,14 @@ impl Talks {
         self.oldest_ready().is_some()
     }
 
+    /// Whether a line isn't whole yet.
+    pub(crate) fn has_asking(&self) -> bool
+        ensures { result ≡ is_some (position is_asking_talk self.now.list.items) }
+    {
+        let oldest = self.oldest_asking();
+        oldest.is_some()
+    }
+
     /// Whether another connection may come in: a place is free, or one leaves for it.
     pub(crate) fn has_room(&self) -> bool
         ensures { result ≡ is_room_among self.now.list.items }

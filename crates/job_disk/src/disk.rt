@@ -3,10 +3,10 @@
 use crate::fault::DiskFault;
 use crate::jobs::FolderJobs;
 use crate::lines::{FileRemoval, HeldLines};
-use crate::listing::names_in;
+use crate::listing::{names_beyond, names_in};
 use crate::syncs::{SyncTold, Syncs};
 use job_files::{FileStage, JobEnd, KeptFileName};
-use server_folder::{FILE_MODE, FolderError, FolderUse};
+use server_folder::{FILE_MODE, FolderError, FolderHold, FolderUse};
 use std::alloc::{AllocError, Global};
 use std::fs::{File, Files, OpenOptions};
 use std::os::unix::fs::OpenOptionsExt;
@@ -20,11 +20,11 @@ pub(crate) const NO_FILE: &str = "it is no file";
 #[derive(Drop)]
 pub struct Disk<'a, R> {
     rt: &'a R,
-    alloc: Global,
+    pub(crate) alloc: Global,
     path: &'a str,
     folder: File,
     // Held while the server has the folder.
-    _lock: File,
+    _hold: FolderHold,
     standing: Mutex<FolderJobs>,
     syncs: Mutex<Syncs>,
     ended: Condvar,
@@ -44,7 +44,7 @@ impl<'a, R: Files<File = File> + Wait> Disk<'a, R> {
         jobs: usize,
         queues: usize,
     ) -> Result<Disk<'a, R>, FolderError> {
-        let lock = server_folder::take(rt, alloc, FolderUse::Jobs, path)?;
+        let hold = server_folder::take(rt, alloc, FolderUse::Jobs, path)?;
         let names = names_in(rt, alloc, path)?;
         let standing = FolderJobs::new(alloc, names.as_slice(), jobs, queues).map_err(
             io::Error::from,
@@ -54,7 +54,7 @@ impl<'a, R: Files<File = File> + Wait> Disk<'a, R> {
             alloc,
             path,
             folder: File::open(rt, path)?,
-            _lock: lock,
+            _hold: hold,
             standing: Mutex::new(standing),
             syncs: Mutex::new(Syncs::new()),
             ended: Condvar::new(),
@@ -88,9 +88,13 @@ impl<'a, R: Files<File = File> + Wait> Disk<'a, R> {
         number.ok_or(io::Error::new(io::ErrorKind::Other, "no number is left"))
     }
 
-    fn path_of(&self, name: KeptFileName) -> Result<String, AllocError> {
+    /// Where a file stands. NotFound where the number is none of a job's file, or memory is refused.
+    fn path_of(&self, name: KeptFileName) -> io::Result<String> {
+        if !name.is_jobs() {
+            return Err(io::ErrorKind::NotFound.into());
+        }
         let path = self.path;
-        format!(in self.alloc; "{path}/{name}")
+        Ok(format!(in self.alloc; "{path}/{name}")?)
     }
 
     /// Makes a file, to which octets are appended.
@@ -124,6 +128,25 @@ impl<'a, R: Files<File = File> + Wait> Disk<'a, R> {
             self.path_of(KeptFileName { number, stage })?,
         );
         fs::rename(self.rt, from.as_str(), to.as_str())
+    }
+
+    /// Whether this file isn't there. Not where that can't be told.
+    pub(crate) fn is_gone(&self, name: KeptFileName) -> bool {
+        let Ok(path) = self.path_of(name) else {
+            return false;
+        };
+        match fs::symlink_metadata(self.rt, path.as_str()) {
+            Ok(_) => false,
+            Err(cause) => cause.kind() == io::ErrorKind::NotFound,
+        }
+    }
+
+    /// The names in the folder, in any order, that are as those of jobs' files but for their numbers, which are `NUMBERS_END` or greater: these
+    /// are no jobs.
+    ///
+    /// An error where the folder can't be read, or memory is refused.
+    pub fn names_beyond(&self) -> io::Result<Vec<KeptFileName>> {
+        names_beyond(self.rt, self.alloc, self.path)
     }
 
     /// The names of the jobs' files, in any order.
@@ -167,8 +190,8 @@ impl<'a, R: Files<File = File> + Wait> Disk<'a, R> {
             return Err(self.fault_at(name, cause));
         }
         if end == JobEnd::Failed {
-            let mut standing = self.jobs();
-            standing.failed = standing.failed.saturating_add(1);
+            // Without memory for its number it is counted as soon as the folder is read again.
+            let _ = self.jobs().failed.insert(number);
         }
         Ok(())
     }
@@ -249,26 +272,30 @@ impl<'a, R: Files<File = File> + Wait> Disk<'a, R> {
         if let Err(cause) = self.remove(name) {
             return Err(self.fault_at(name, cause));
         }
-        self.note_one_less();
+        self.jobs().failed.remove(&number);
         Ok(())
     }
 
-    /// One of the files that failed isn't there any more.
-    fn note_one_less(&self) {
-        let mut standing = self.jobs();
-        standing.failed = standing.failed.saturating_sub(1);
+    /// Whether a job of this number stands in a line: it comes, waits, is being fed, or the spool has it.
+    pub fn is_known(&self, number: u64) -> bool {
+        self.jobs().lines.is_known(number)
     }
 
     /// Makes a file that failed a whole one again, which is to be fed then.
     ///
-    /// An error where there is no such file, or it can't be renamed, or the folder can't be synced.
+    /// An error where there is no such file, or a whole one of this number is there, or it can't be renamed, or the folder can't be synced.
     pub fn resend(&self, number: u64) -> Result<(), DiskFault<'a>> {
+        let stage = FileStage::Whole;
+        let whole = KeptFileName { number, stage };
+        if !self.is_gone(whole) {
+            return Err(self.fault_at(whole, io::ErrorKind::AlreadyExists.into()));
+        }
         let stage = FileStage::Failed;
         let name = KeptFileName { number, stage };
         if let Err(cause) = self.rename(name, FileStage::Whole) {
             return Err(self.fault_at(name, cause));
         }
-        self.note_one_less();
+        self.jobs().failed.remove(&number);
         self.sync_names().map_err(|cause| self.fault(cause))
     }
 
@@ -284,6 +311,6 @@ impl<'a, R: Files<File = File> + Wait> Disk<'a, R> {
 
     /// How many jobs have failed.
     pub fn failed(&self) -> usize {
-        self.jobs().failed
+        self.jobs().failed.len()
     }
 }

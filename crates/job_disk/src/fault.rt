@@ -27,6 +27,30 @@ impl<'a> DiskFault<'a> {
             cause,
         }
     }
+
+    /// The same without the folder.
+    pub fn in_folder(&self) -> InFolder<'_, 'a> {
+        InFolder(self)
+    }
+
+    /// Whether there was no such file.
+    pub fn is_absence(&self) -> bool {
+        self.cause.kind() == io::ErrorKind::NotFound
+    }
+}
+
+/// A fault as whoever knows the folder is told it: at which of its files, and why.
+#[derive(Clone, Copy)]
+pub struct InFolder<'f, 'a>(&'f DiskFault<'a>);
+
+impl Display for InFolder<'_, '_> {
+    fn fmt<W: Write>(&self, f: &mut Formatter<W>) -> fmt::Result {
+        let cause = &self.0.cause;
+        match &self.0.name {
+            Some(name) => write!(f, "{name}: {cause}"),
+            None => write!(f, "{cause}"),
+        }
+    }
 }
 
 impl Display for DiskFault<'_> {

@@ -4,7 +4,7 @@ use crate::numbers::FileNumbers;
 use job_files::{FileStage, JobEnd, JobFiles, KeptFileName};
 use parked_lines::{ParkedJob, ParkedLines};
 use std::alloc::{AllocError, Global};
-use std::collections::HashMap;
+use std::collections::{HashMap, HashSet};
 
 /// What is known of the folder's jobs.
 #[derive(Drop)]
@@ -15,7 +15,23 @@ pub(crate) struct FolderJobs {
     pub(crate) lines: ParkedLines,
     /// The numbers that are taken for jobs which sessions begin, by their seats.
     pub(crate) taken: HashMap<u32, u64>,
-    pub(crate) failed: usize,
+    /// The numbers of the files of failed jobs.
+    pub(crate) failed: HashSet<u64>,
+}
+
+/// The numbers of the files of a stage. AllocError where memory for them is refused.
+pub(crate) fn numbers_at(
+    alloc: Global,
+    names: &[KeptFileName],
+    stage: FileStage,
+) -> Result<HashSet<u64>, AllocError> {
+    let mut numbers = HashSet::new(alloc);
+    for name in names {
+        if name.stage == stage {
+            numbers.insert(name.number)?;
+        }
+    }
+    Ok(numbers)
 }
 
 impl FolderJobs {
@@ -32,10 +48,7 @@ impl FolderJobs {
             files: JobFiles::with_room(alloc, jobs)?,
             lines: ParkedLines::new(alloc, queues)?,
             taken: HashMap::new(alloc),
-            failed: names
-                .iter()
-                .filter(|name| name.stage == FileStage::Failed)
-                .count(),
+            failed: numbers_at(alloc, names, FileStage::Failed)?,
         })
     }
 

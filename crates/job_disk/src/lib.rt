@@ -9,14 +9,16 @@ mod lines;
 mod listing;
 mod looking;
 mod numbers;
+mod recount;
 mod store;
 mod syncs;
 
 pub use disk::Disk;
-pub use fault::DiskFault;
+pub use fault::{DiskFault, InFolder};
 pub use folder::DiskFolder;
 pub use lines::{FileRemoval, HeldLines, NumberedJob};
 pub use looking::{FolderState, HELD_QUEUES, look, read_held};
 pub use parked_lines::{AdmissionFault, JobSize};
+pub use recount::Recount;
 pub use server_folder::{FolderError, FolderUse};
 pub use store::DiskStore;

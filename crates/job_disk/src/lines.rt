@@ -5,7 +5,7 @@ ghost use Rattle.std.specs.List.{list_any};
 ghost use Rattle.std.specs.Option.{option_and_then};
 ghost use Rattle.parked_lines.specs.declared.state.JobMove.TheVariants.{Enter, PutBack, TurnAside};
 ghost use Rattle.parked_lines.specs.declared.state.ParkState.TheVariants.{Coming, Fed, Whole};
-ghost use Rattle.parked_lines.specs.Line.{job_kept, job_moved};
+ghost use Rattle.parked_lines.specs.Line.{is_fed_of, job_kept, job_moved};
 ghost use Rattle.parked_lines.specs.Lines.{found, IsNext, line_of, MovesOne, next_of};
 ghost use Rattle.parked_lines.specs.Parts.{pages_used, rows_used};
 ghost use Rattle.parked_lines.specs.States.{is_fed, is_parked};
@@ -201,6 +201,13 @@ impl HeldLines<'_> {
         ensures { result ≡ list_any (λ job. is_fed job.state) (line_of self.now queue) }
     {
         self.jobs.lines.is_feeding(queue)
+    }
+
+    /// Whether a job of this sender for a queue is being fed.
+    pub fn is_feeding_of(&self, queue: usize, sender: u32) -> bool
+        ensures { result ≡ list_any (is_fed_of sender) (line_of self.now queue) }
+    {
+        self.jobs.lines.is_feeding_of(queue, sender)
     }
 
     /// Whether the job of this number of acceptance is one of a queue that the spool has whole, with a file of which that is known.

@@ -3,12 +3,20 @@
 ghost use Rattle.std.specs.Prelude.{◌≡◌};
 ghost use Rattle.job_disk.specs.FileNumbers.{behind, greatest, next_behind};
 
-use job_files::KeptFileName;
+use job_files::{KeptFileName, NUMBERS_END};
 
-/// The number of the next file; None where all that 64 bits have room for are used up.
+/// The number of the next file; None where all that jobs' files can have are used up.
 #[derive(Clone, Copy)]
 pub(crate) struct FileNumbers {
     next: Option<u64>,
+}
+
+/// The number behind this one, where a job's file can have it.
+fn number_behind(number: u64) -> Option<u64>
+    ensures { result ≡ behind number }
+{
+    let next = number.checked_add(1)?;
+    if next < NUMBERS_END { Some(next) } else { None }
 }
 
 impl FileNumbers {
@@ -20,7 +28,7 @@ impl FileNumbers {
             .iter()
             .fold(0u64, |so_far, name| so_far.max(name.number));
         FileNumbers {
-            next: greatest.checked_add(1),
+            next: number_behind(greatest),
         }
     }
 
@@ -30,7 +38,7 @@ impl FileNumbers {
         ensures next { self.new.next ≡ next_behind self.old.next }
     {
         let number = self.next?;
-        self.next = number.checked_add(1);
+        self.next = number_behind(number);
         Some(number)
     }
 }

@@ -49,6 +49,15 @@ impl<'a, R: Files<File = File> + Wait> DiskStore<'a, R> {
             .map_err(|cause| self.disk.fault_at(name, cause))
     }
 
+    /// The file of this number of a job that has failed, to be read from its head on. An error where it can't be opened.
+    pub fn open_failed(&self, number: u64) -> Result<File, DiskFault<'a>> {
+        let stage = FileStage::Failed;
+        let name = KeptFileName { number, stage };
+        self.disk
+            .open_file(name)
+            .map_err(|cause| self.disk.fault_at(name, cause))
+    }
+
     /// The file of this number of a job that is whole or has failed, to be read from its head on. An error where there is neither, or it
     /// can't be opened.
     pub fn open_kept(&self, number: u64) -> Result<File, DiskFault<'a>> {
@@ -56,9 +65,7 @@ impl<'a, R: Files<File = File> + Wait> DiskStore<'a, R> {
         if whole.is_ok() {
             return whole;
         }
-        let stage = FileStage::Failed;
-        let name = KeptFileName { number, stage };
-        match self.disk.open_file(name) {
+        match self.open_failed(number) {
             Ok(file) => Ok(file),
             // Between the two looks a printer may have left it.
             Err(_) => self.open_job(number),

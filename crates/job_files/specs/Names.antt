@@ -1,5 +1,5 @@
 -- How the files of jobs are named.
-use Rattle.std.specs.Prelude.{◌≡◌, ◌<◌, ◌^◌, ◌++◌, ℕ, List, codes}
+use Rattle.std.specs.Prelude.{◌≡◌, ◌<◌, ◌^◌, ◌++◌, ℕ, Bool, List, codes, nat_lt}
 use Rattle.std.specs.Fmt.{decimal}
 use Rattle.job_files.specs.declared.names.KeptFileName.{KeptFileName}
 use Rattle.job_files.specs.declared.names.FileStage.{FileStage}
@@ -14,6 +14,10 @@ stage_word Failed = codes ".failed"
 -- a name as it is written
 abbrev pub written : KeptFileName → List ℕ
 written name = decimal name.number ++ stage_word name.stage
+
+-- a job's file can have this number
+abbrev pub is_job_number : ℕ → Bool
+is_job_number n = nat_lt n (2 ^ 63)
 
 -- octets are no name of this stage
 abbrev pub IsNoneOf : FileStage → List ℕ → Type 0

@@ -6,6 +6,6 @@ mod names;
 mod table;
 mod waiting;
 
-pub use names::{FileStage, KeptFileName};
+pub use names::{FileStage, KeptFileName, NUMBERS_END};
 pub use table::{JobEnd, JobFiles};
 pub use waiting::WaitingJobs;

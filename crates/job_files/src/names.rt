@@ -1,11 +1,14 @@
 //! How the files of a folder are named.
 
 ghost use Rattle.std.specs.Prelude.{◌≡◌, ◌++◌, ℕ, List, MatchOption};
-ghost use Rattle.job_files.specs.Names.{IsNoName, IsNoneOf, stage_word, written};
+ghost use Rattle.job_files.specs.Names.{IsNoName, IsNoneOf, is_job_number, stage_word, written};
 
 use decimals::read_decimal;
 use std::fmt;
 use std::fmt::{Display, Formatter, Write};
+
+/// The first number that no job's file has, 2^63: what has it or a greater one is no job, and the numbers of new jobs don't go on behind it.
+pub const NUMBERS_END: u64 = 9_223_372_036_854_775_808;
 
 /// How far the job of a file is.
 #[derive(Clone, Copy, Debug, PartialEq, Eq)]
@@ -59,6 +62,13 @@ fn before<'a>(octets: &'a [u8], word: &[u8]) -> Option<&'a [u8]>
 }
 
 impl KeptFileName {
+    /// Whether a job's file can have the number.
+    pub fn is_jobs(&self) -> bool
+        ensures { result ≡ is_job_number self.now.number }
+    {
+        self.number < NUMBERS_END
+    }
+
     /// The name of this stage that these octets are.
     fn at_stage(octets: &[u8], stage: FileStage) -> Option<KeptFileName>
         ensures { MatchOption result (IsNoneOf stage octets.now)

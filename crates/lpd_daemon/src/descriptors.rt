@@ -8,8 +8,8 @@ const KEPT_DESCRIPTORS: u64 = 64;
 /// How many more are kept for the control socket and what comes to it.
 const STEWARDS_DESCRIPTORS: u64 = 80;
 
-/// How many more are kept for who shows the status and for who asks for it.
-const BOARDS_DESCRIPTORS: u64 = 80;
+/// How many more are kept for who shows the status and for who asks for it: 64 in its lobby, 128 that are answered.
+const BOARDS_DESCRIPTORS: u64 = 208;
 
 /// How many more are kept for the folder in which jobs are, and for what is read of it.
 const FOLDERS_DESCRIPTORS: u64 = 8;
@@ -42,7 +42,7 @@ pub(crate) fn folder_descriptors(sessions: u32, are_kept: bool) -> u64
 
 /// How many more descriptors are kept where the status is shown.
 pub(crate) fn board_descriptors(is_shown: bool) -> u64
-    ensures { result ≡ (if is_shown then 80 else 0) }
+    ensures { result ≡ (if is_shown then 208 else 0) }
 {
     if is_shown { BOARDS_DESCRIPTORS } else { 0 }
 }

@@ -73,6 +73,16 @@ impl<R: Files<File = File> + Clock + Log + Wait, E: HouseLedger, S: PrintSink + 
         hall.put_offs.is_waiting(hall.rt, self.printer)
     }
 
+    /// A page of this job is written now. One that only now begins is a try of its printer, whoever started that: what fails of it from here on
+    /// fails, and wasn't put back.
+    fn take_up(&mut self, job: u64) {
+        let (hall, printer) = (self.house.hall, self.printer);
+        if self.job != Some(job) && self.house.first_try(printer, job).is_none() {
+            hall.put_offs.end(hall.rt, printer);
+        }
+        self.job = Some(job);
+    }
+
     /// Notes a page that came back as not written, with which the printer stands still: its job has failed, or, where none is lost, had
     /// been removed. Then the printer has no cause to stand still where the next job may be tried all the same. One whose job was put back
     /// stands still until it is tried again.
@@ -111,7 +121,7 @@ impl<R: Files<File = File> + Clock + Log + Wait, E: HouseLedger, S: PrintSink + 
 
     fn write_page(&mut self, page: &HandedPage) -> Result<(), SinkFault> {
         let hall = self.house.hall;
-        self.job = Some(page.job);
+        self.take_up(page.job);
         let written = self.sink.write_page(page);
         if written.is_ok() {
             hall.restarts.note_page(hall.rt, self.queue);
@@ -199,6 +209,10 @@ impl<R: Files<File = File> + Clock + Log + Wait, E: HouseLedger> Errand for Prin
 
     fn note_taken(&self, printer: u32) {
         self.house().note_taken(printer);
+    }
+
+    fn note_end(&self, printer: u32, doubtful: Option<u64>) {
+        self.house().note_end(printer, doubtful);
     }
 
     fn first_try(&self, printer: u32, job: u64) -> Option<Instant> {

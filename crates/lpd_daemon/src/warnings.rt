@@ -5,6 +5,7 @@ ghost use Rattle.config_values.specs.Config.{IsQueue, reserve_of};
 
 use config_values::Config;
 use log::{Log, warn};
+use printer_devices::{default_file, place_of};
 use program_edge::Settings;
 use std::str;
 
@@ -64,6 +65,22 @@ fn warn_of_sizes<R: Log>(rt: &R, config: &Config, keep_room: bool) {
     }
 }
 
+/// Warns of each printer that nobody said a place of, where somebody said one of another.
+fn warn_of_unplaced<R: Log>(rt: &R, settings: &Settings<'_>, config: &Config) {
+    if settings.printers.is_empty() {
+        return;
+    }
+    for index in 0..config.printer_count() {
+        let printer = index + 1;
+        if place_of(settings, printer).is_none() {
+            let name = config.name_of(config.queue_of(printer));
+            let name = str::from_utf8(name).unwrap_or("");
+            let file = default_file(settings, printer);
+            warn!(rt; target: PART, "printer {printer} of {name} has no place, where others have one: it prints to {file}");
+        }
+    }
+}
+
 /// Warns of what a server of these settings and this configuration will want sooner or later.
 pub(crate) fn warn_of<R: Log>(rt: &R, settings: &Settings<'_>, config: &Config) {
     if settings.connections.is_some() {
@@ -77,5 +94,6 @@ pub(crate) fn warn_of<R: Log>(rt: &R, settings: &Settings<'_>, config: &Config) 
     if settings.limits.silence.is_none() && !settings.bind.is_loopback() {
         warn!(rt; target: PART, "a peer that stalls amid a job can hold up all others: --silence SECONDS ends it");
     }
+    warn_of_unplaced(rt, settings, config);
     warn_of_sizes(rt, config, settings.keep_room);
 }

@@ -4,7 +4,7 @@
 //! be handed on behind a trait.
 #![tactic(auto)]
 
-ghost use Rattle.std.specs.Prelude.{◌≡◌, ◌≤◌};
+ghost use Rattle.std.specs.Prelude.{◌≡◌, ◌≤◌, ◌⊎◌};
 ghost use Rattle.std.specs.Process.{exit_status};
 ghost use Rattle.word_actions.specs.Outcome.{IfEnded};
 
@@ -14,6 +14,7 @@ use log::filter::{Builder, Filter, FilteredLog};
 use log::sink::Console;
 use log::{Level, LevelFilter, Log, Logged, error, info};
 use log_lines::{LineLog, LineQueue, LogForm};
+use lpd_commands::OctetWrite;
 use lpd_daemon::{
     ACCOUNT_LINES, Counter, FOLDER_CAUSES, JOB_LINES, OpenFault, Plan, SHARED_FOLDERS,
 };
@@ -24,7 +25,7 @@ use program_edge::{
 use program_words::{AuditRequest, ControlRequest, ServeRequest, Unread, UsageRequest};
 use std::alloc::{AllocError, Global};
 use std::fs::{File, Files};
-use std::io::{IsTerminal, Lock, Write};
+use std::io::{IsTerminal, Lock, StdoutLock, Write};
 use std::net::{Net, TcpListener, TcpStream};
 use std::process::ExitCode;
 use std::rt::Clock;
@@ -33,7 +34,8 @@ use std::thread::Threads;
 use std::time::Duration;
 use std::{io, thread};
 use word_actions::{
-    ActionFault, PLACE_LINES, PROGRESS, ReadSpool, RunOutcome, System, printers_of, tell_places,
+    ActionFault, PLACE_LINES, PROGRESS, ReadSpool, RunOutcome, System, TerminalWriter, printers_of,
+    remark_on, tell_places,
 };
 
 /// How many lines of the log wait to be written, at most.
@@ -113,14 +115,51 @@ fn refuse_memory<W: Write + Drop>(alloc: Global, faults: &mut StreamWriter<W>) -
     4
 }
 
+/// Standard output, at which what strangers sent is shown by its digits where it is a terminal.
+fn output_of(rt: &HostRuntime) -> TerminalWriter<StreamWriter<StdoutLock<'static>>> {
+    let output = rt.stdout();
+    let is_terminal = output.is_terminal();
+    TerminalWriter::new(rt.alloc(), StreamWriter::new(output.lock()), is_terminal)
+}
+
+/// Nothing more is written to the output. Answers this exit status, and 4, which is told, where what was held back can't be written.
+fn ended<O: OctetWrite + Drop, E: OctetWrite>(
+    alloc: Global,
+    status: u8,
+    output: &mut TerminalWriter<O>,
+    faults: &mut E,
+) -> u8
+    ensures { (result ≡ status) ⊎ (result ≡ 4) }
+{
+    if output.finish().is_ok() || status != 0 {
+        return status;
+    }
+    // As for any fault: the exit status says it too.
+    let _ = tell(alloc, &FaultName::WriteFile, faults);
+    4
+}
+
+/// What is told at a terminal where standard input is to be read, before anything is waited for.
+const READING: &str =
+    "reading a configuration and a script from standard input (--help tells the words)";
+
+/// Tells at a terminal that standard input is read where there are no words.
+fn tell_reading<W: Write + Drop>(rt: &HostRuntime, words: &[String], faults: &mut StreamWriter<W>) {
+    if words.len() <= 1 && rt.stdin().is_terminal() {
+        // Where standard error can't be written, nobody is there who waits for it.
+        let _ = tell(rt.alloc(), &READING, faults);
+    }
+}
+
 /// Does what the words ask for, but for serving and for commands to a server.
 fn run<'a>(rt: &HostRuntime, words: &'a [String]) -> RunOutcome<'a>
     ensures { IfEnded result (λ status. status ≤ 5) }
 {
     let alloc = rt.alloc();
     let mut input = StreamReader::new(rt.stdin().lock());
-    let mut output = StreamWriter::new(rt.stdout().lock());
+    let mut output = output_of(rt);
     let mut faults = StreamWriter::new(rt.stderr());
+    tell_reading(rt, words, &mut faults);
     // What asks for it is known by the part that sends a job alone.
     let Ok(filter) = told(alloc, rt.stderr().is_terminal(), PROGRESS, true) else {
         let unread = Unread::Memory;
@@ -136,7 +175,12 @@ fn run<'a>(rt: &HostRuntime, words: &'a [String]) -> RunOutcome<'a>
         rt: &logged,
         host: rt,
     };
-    word_actions::run(system, words, &mut input, &mut output, &mut faults)
+    match word_actions::run(system, words, &mut input, &mut output, &mut faults) {
+        RunOutcome::Ended(status) => {
+            RunOutcome::Ended(ended(alloc, status, &mut output, &mut faults))
+        }
+        outcome => outcome,
+    }
 }
 
 /// Sends a command to a server's control socket, and prints the answer. Answers the exit status.
@@ -144,13 +188,14 @@ fn control(rt: &HostRuntime, request: &ControlRequest) -> u8
     ensures { result ≤ 5 }
 {
     let alloc = rt.alloc();
-    let mut output = StreamWriter::new(rt.stdout().lock());
+    let mut output = output_of(rt);
     let mut faults = StreamWriter::new(rt.stderr());
     let Ok(filter) = told(alloc, rt.stderr().is_terminal(), PROGRESS, false) else {
         return refuse_memory(alloc, &mut faults);
     };
     let logged = Logged::new(*rt, Level::Info, FilteredLog::new(Console(*rt), filter));
-    word_actions::control(rt, &logged, request, &mut output, &mut faults)
+    let status = word_actions::control(rt, &logged, request, &mut output, &mut faults);
+    ended(alloc, status, &mut output, &mut faults)
 }
 
 /// Checks an account, of which `progress` asks to be told how far that is. Answers the exit status.
@@ -158,14 +203,15 @@ fn audit(rt: &HostRuntime, request: &AuditRequest) -> u8
     ensures { result ≤ 6 }
 {
     let alloc = rt.alloc();
-    let mut output = StreamWriter::new(rt.stdout().lock());
+    let mut output = output_of(rt);
     let mut faults = StreamWriter::new(rt.stderr());
     let is_terminal = rt.stderr().is_terminal();
     let Ok(filter) = told(alloc, is_terminal, AUDIT, request.progress) else {
         return refuse_memory(alloc, &mut faults);
     };
     let logged = Logged::new(*rt, Level::Info, FilteredLog::new(Console(*rt), filter));
-    account_reports::audit(&logged, alloc, request, &mut output, &mut faults)
+    let status = account_reports::audit(&logged, alloc, request, &mut output, &mut faults);
+    ended(alloc, status, &mut output, &mut faults)
 }
 
 /// Tells what was used. Answers the exit status.
@@ -173,13 +219,14 @@ fn usage(rt: &HostRuntime, request: &UsageRequest) -> u8
     ensures { result ≤ 6 }
 {
     let alloc = rt.alloc();
-    let mut output = StreamWriter::new(rt.stdout().lock());
+    let mut output = output_of(rt);
     let mut faults = StreamWriter::new(rt.stderr());
     let Ok(filter) = told(alloc, rt.stderr().is_terminal(), AUDIT, false) else {
         return refuse_memory(alloc, &mut faults);
     };
     let logged = Logged::new(*rt, Level::Info, FilteredLog::new(Console(*rt), filter));
-    account_reports::usage(&logged, alloc, request, &mut output, &mut faults)
+    let status = account_reports::usage(&logged, alloc, request, &mut output, &mut faults);
+    ended(alloc, status, &mut output, &mut faults)
 }
 
 /// Starts the thread that writes what is logged, so that no other waits for whoever reads that. It
@@ -274,23 +321,26 @@ fn serve<
         + Sync,
     N: AllocGlobal + Clock + Files<File = File> + Net,
     O: Write + Drop,
->(rt: &R, host: &N, config: &str, request: ServeRequest, output: O) -> u8
+>(rt: &R, host: &N, path: &str, request: ServeRequest, output: O) -> u8
 where
     R::Dir: Send + Sync,
     ensures { result ≤ 5 }
 {
     let alloc = host.alloc();
-    let mut file = StreamReader::open(rt, config);
+    let mut file = StreamReader::open(rt, path);
     let ServeRequest { settings, printers } = request;
     let spool = match word_actions::read_spool(alloc, &mut file) {
         Ok(spool) => spool,
         Err(fault) => {
-            tell_cause(rt, &config, file.cause());
+            tell_cause(rt, &path, file.cause());
+            remark_on(rt, alloc, path, Some(&fault));
             return refuse(rt, &fault);
         }
     };
     let ReadSpool { config, told } = spool;
-    let printers = match printers_of(alloc, &config, told.as_slice(), printers.as_slice()) {
+    let placed = printers_of(alloc, &config, told.as_slice(), printers.as_slice());
+    remark_on(rt, alloc, path, placed.as_ref().err());
+    let printers = match placed {
         Ok(printers) => printers,
         Err(fault) => return refuse(rt, &fault),
     };

@@ -3,9 +3,15 @@
 use control_file::Control;
 use lpd_values::FileName;
 
-/// Who is told what becomes of the jobs of a session, each by its number of acceptance. What is told has been done by then, but for a
-/// control file, which is shown before it is handed on.
+/// Who is told what becomes of the jobs of a session, each by its number of acceptance. What is told has been done by then, but for what
+/// is asked for and a control file, which are shown before they are handed on.
 pub trait JobNotes {
+    /// A job is asked for, for the queue of this name.
+    fn asked_for(&mut self, queue: &[u8]);
+
+    /// A data file of so many octets is asked for.
+    fn file_asked(&mut self, count: u64);
+
     /// A job was accepted from this sender for the queue of this name.
     fn opened(&mut self, job: u64, sender: u32, queue: &[u8]);
 

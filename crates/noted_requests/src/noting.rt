@@ -35,10 +35,12 @@ impl<Q: Requests, N: JobNotes> Requests for Noting<Q, N> {
     ghost ends = { λ old job page new. Q.ends old.inner job page new.inner };
 
     fn admits(&mut self, queue: &[u8]) -> Result<(), Refusal> {
+        self.notes.asked_for(queue);
         self.inner.admits(queue)
     }
 
     fn open(&mut self, sender: u32, queue: &[u8]) -> Result<u64, Refusal> {
+        self.notes.asked_for(queue);
         let answer = self.inner.open(sender, queue);
         if let Ok(job) = answer {
             self.notes.opened(job, sender, queue);
@@ -47,6 +49,7 @@ impl<Q: Requests, N: JobNotes> Requests for Noting<Q, N> {
     }
 
     fn begin_file(&mut self, job: u64, name: FileName, count: u64) -> Result<(), Refusal> {
+        self.notes.file_asked(count);
         let answer = self.inner.begin_file(job, name, count);
         if answer.is_ok() {
             self.notes.file_began(job, &name);

@@ -8,7 +8,7 @@ use Rattle.parked_lines.specs.declared.job.ParkedJob.{ParkedJob}
 use Rattle.parked_lines.specs.declared.state.JobMove.{JobMove}
 use Rattle.parked_lines.specs.declared.state.ParkState.{ParkState}
 use Rattle.parked_lines.specs.declared.state.ParkState.TheVariants.{Coming, Beside}
-use Rattle.parked_lines.specs.States.{is_outside, is_parked, is_waiting, kept, moved}
+use Rattle.parked_lines.specs.States.{is_fed, is_outside, is_parked, is_waiting, kept, moved}
 
 -- a job that is opened, in this state and of this size
 abbrev pub job_at : NewJob → ParkState → JobSize → ParkedJob
@@ -23,6 +23,10 @@ job_kept job size =
 -- a job after this, where it may happen to it
 abbrev pub job_moved : JobMove → ParkedJob → Option ParkedJob
 job_moved change job = option_map (λ state. record job { state = state }) (moved change job.state)
+
+-- a job of this sender is being fed
+abbrev pub is_fed_of : ℕ → ParkedJob → Bool
+is_fed_of sender job = is_fed job.state && job.sender == sender
 
 -- each number once, in order
 abbrev pub IsRising : List ParkedJob → Type 0

@@ -3,7 +3,7 @@
 ghost use Rattle.std.specs.Prelude.{◌≡◌, ◌<◌, ◌≤◌, [], None, Some, OnErr, OnOk, IfOk, MatchOption, count_by, filter, find, is_some, length, nat_lt, position, take};
 ghost use Rattle.std.specs.Bool.{OnFalse, OnTrue};
 ghost use Rattle.std.specs.List.{AllWithin, list_any, take_while};
-ghost use Rattle.parked_lines.specs.Line.{Becomes, has_earlier, has_parked, is_earlier, IsAt, IsRising, job_of, may_feed, way_of};
+ghost use Rattle.parked_lines.specs.Line.{Becomes, IsAt, IsRising, has_earlier, has_parked, is_earlier, is_fed_of, job_of, may_feed, way_of};
 ghost use Rattle.parked_lines.specs.Parts.{pages_used, rows_used};
 ghost use Rattle.parked_lines.specs.States.{is_fed, is_parked};
 
@@ -157,6 +157,15 @@ impl QueueLine {
         ensures { result ≡ list_any (λ job. is_fed job.state) self.now }
     {
         self.jobs.iter().any(|job| job.state.is_fed())
+    }
+
+    /// Whether a job of this sender is being fed.
+    pub(crate) fn is_feeding_of(&self, sender: u32) -> bool
+        ensures { result ≡ list_any (is_fed_of sender) self.now }
+    {
+        self.jobs
+            .iter()
+            .any(|job| job.state.is_fed() && job.sender == sender)
     }
 
     /// What its jobs have of the spool, each of which may come to this many pages.

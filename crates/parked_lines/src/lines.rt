@@ -6,7 +6,7 @@ ghost use Rattle.std.specs.Bool.{OnFalse, OnTrue};
 ghost use Rattle.std.specs.List.{list_any};
 ghost use Rattle.parked_lines.specs.declared.state.ParkState.TheVariants.{Coming, Fed, Waiting};
 ghost use Rattle.parked_lines.specs.Cause.{IsCause};
-ghost use Rattle.parked_lines.specs.Line.{job_at, job_kept, job_moved, way_of};
+ghost use Rattle.parked_lines.specs.Line.{is_fed_of, job_at, job_kept, job_moved, way_of};
 ghost use Rattle.parked_lines.specs.Lines.{found, has_known, IsFirstFrom, IsNext, IsOnce, line_of, LosesNone, MovesOne, next_of, NoneFrom};
 ghost use Rattle.parked_lines.specs.Parts.{pages_used, rows_used};
 ghost use Rattle.parked_lines.specs.States.{is_fed, is_parked};
@@ -319,6 +319,16 @@ impl ParkedLines {
     {
         match self.lines.get(queue) {
             Some(line) => line.is_feeding(),
+            None => false,
+        }
+    }
+
+    /// Whether a job of this sender for a queue is being fed.
+    pub fn is_feeding_of(&self, queue: usize, sender: u32) -> bool
+        ensures { result ≡ list_any (is_fed_of sender) (line_of self.now queue) }
+    {
+        match self.lines.get(queue) {
+            Some(line) => line.is_feeding_of(sender),
             None => false,
         }
     }

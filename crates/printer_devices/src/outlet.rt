@@ -7,7 +7,7 @@ use libc::net::{POLLIN, POLLOUT, poll};
 use libc::types::pollfd;
 use os::set_nonblocking;
 use sink_devices::Errand;
-use std::fs::{File, FileType, Files, OpenOptions};
+use std::fs::{File, FileType, Files, OpenOptions, TryLockError};
 use std::io::{Error, ErrorKind, Write};
 use std::os::fd::{AsRawFd, RawFd};
 use std::os::unix::fs::FileTypeExt;
@@ -49,6 +49,12 @@ impl Outlet {
             is_pipe,
             is_regular,
         })
+    }
+
+    /// Whether another server, or another printer, has the same file of a disk open as its printer's. Who asks has it locked from then on, as
+    /// long as it is open: so the next one that asks is told. Where the disk knows no locks nobody is.
+    pub(crate) fn is_shared(&self) -> bool {
+        self.is_regular && matches!(self.file.try_lock(), Err(TryLockError::WouldBlock))
     }
 
     /// The same file, where it is one of a disk: it can be synced.

@@ -9,7 +9,7 @@ use crate::outlet::Outlet;
 use crate::sharing::shared_folder;
 use log::{Log, warn};
 use program_edge::{DefaultFile, PrinterPlace, Settings, StartFault, StartPart, tell_cause};
-use sink_devices::names_of;
+use sink_devices::{names_of, try_folder};
 use std::alloc::{AllocError, Global};
 use std::fs::{File, Files};
 use std::io;
@@ -46,8 +46,14 @@ impl OpenedPlace {
     }
 }
 
-/// Looks into a folder. What a server that was killed has left there is told.
-fn open_folder<R: Files<File = File> + Log>(rt: &R, path: String) -> io::Result<OpenedPlace> {
+/// Looks into a folder, in which a file has to be made for that: that none can shows here, and not at the first job. What a server that was
+/// killed has left there is told.
+fn open_folder<R: Files<File = File> + Log>(
+    rt: &R,
+    alloc: Global,
+    path: String,
+) -> io::Result<OpenedPlace> {
+    try_folder(rt, alloc, path.as_str())?;
     let names = names_of(rt, path.as_str())?;
     if names.left > 0 {
         let left = names.left;
@@ -55,6 +61,19 @@ fn open_folder<R: Files<File = File> + Log>(rt: &R, path: String) -> io::Result<
     }
     let next = names.next;
     Ok(OpenedPlace::Folder { path, next })
+}
+
+/// Opens the file of a printer. That another one appends to it too is told: what both print is mixed up there.
+fn open_file<R: Files<File = File> + Log>(
+    rt: &R,
+    printer: u32,
+    path: &str,
+) -> io::Result<OpenedPlace> {
+    let outlet = Outlet::open(rt, path)?;
+    if outlet.is_shared() {
+        warn!(rt; "printer {printer}: {path}: another server or printer writes to it too, and what both print is mixed up there");
+    }
+    Ok(OpenedPlace::File(outlet))
 }
 
 /// Opens what the printer of a number prints to. A socket isn't dialled yet.
@@ -70,8 +89,10 @@ fn open_at<R: Files<File = File> + Log>(
 {
     let (path, opened) = match place {
         PrinterPlace::Socket(address) => return Ok(OpenedPlace::Socket(address)),
-        PrinterPlace::File(path) => (path, Outlet::open(rt, path).map(OpenedPlace::File)),
-        PrinterPlace::Folder(path) => (path, open_folder(rt, String::from_str(alloc, path)?)),
+        PrinterPlace::File(path) => (path, open_file(rt, printer, path)),
+        PrinterPlace::Folder(path) => {
+            (path, open_folder(rt, alloc, String::from_str(alloc, path)?))
+        }
     };
     match opened {
         Ok(opened) => Ok(opened),

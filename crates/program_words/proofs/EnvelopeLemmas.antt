@@ -1,10 +1,10 @@
 -- Why the words of a job are refused.
-use Rattle.std.proofs.Common.{◌≡◌, ◌∙◌, ◌≤◌, ◌*◌, inl, inr, ℕ, Bool, true, false, List, [], ◌∷◌, ◌++◌, length, nat_le, slice_index, refl, sym, ap, arith, length-append}
+use Rattle.std.proofs.Common.{◌≡◌, ◌∙◌, ◌≤◌, ◌*◌, inl, inr, ℕ, Bool, true, false, List, [], ◌∷◌, ◌++◌, length, nat_le, slice_index, refl, sym, ap, subst, arith, length-append}
 use Rattle.std.specs.List.{list_all}
-use Rattle.std.proofs.lemmas.Bool.{and_parts, and_from, leb-true, le-leb, or_cases, eq-eqb}
+use Rattle.std.proofs.lemmas.Bool.{and_parts, and_from, leb-true, le-leb, le-ltb, or_cases, eq-eqb}
 use Rattle.std.proofs.lemmas.Bool.Decides.{nat_tests}
 use Rattle.control_file.specs.View.{contents}
-use Rattle.control_file.specs.Written.{control_text, print_lines}
+use Rattle.control_file.specs.Written.{control_text, is_over, last_lines, print_lines, text_with}
 use Rattle.control_file.specs.declared.control.Control.{Control}
 use Rattle.lpd_values.specs.Kept.{is_line_feed, is_operand, is_print_list}
 use Rattle.lpd_values.specs.Kinds.{is_word_octet}
@@ -69,7 +69,9 @@ pub text_fits : (c : Control) → length c.prints ≤ 52 → nat_le (length (con
 text_fits c few =
     let fit : is_print_list c.prints ≡ true = c.prints_fit in
     let lines = print_lines_fit c.prints (and_parts _ _ fit).1 in
-    le-leb _ 8192 (lengths_fit c.host c.user c.prints (operand_fits c.host c.host_fits) (operand_fits c.user c.user_fits) lines few)
+    let whole : length (text_with (contents c) (print_lines c.prints)) ≤ 8192 = lengths_fit c.host c.user c.prints (operand_fits c.host c.host_fits) (operand_fits c.user c.user_fits) lines few in
+    let over : is_over (contents c) ≡ false = le-ltb 8192 (length (text_with (contents c) (print_lines c.prints))) whole in
+    le-leb _ 8192 (subst (λ o. length (text_with (contents c) (last_lines o c.prints)) ≤ 8192) (sym over) whole)
 
 -- the number of a name is the one that was written into it
 pub number_in_name : (n : ℕ) (host : List ℕ) → n ≤ 999 → number_of (file_name (99 ∷ 102 ∷ 65 ∷ []) n host) ≡ n

@@ -44,7 +44,8 @@ Examples:
 const MORE_OF_USAGE: &str = "\
 Each FILE is a segment of an account, as `serve --account DIR` writes it. Prints a line for each user, host or queue:
   ann jobs 2 sent 2048 printed 4096
-Octets are sent once and printed as often as they were. Jobs that came without a control file stand under -.
+Octets are sent once and printed as often as they were, but a job that was put back, since its printer wasn't reached or its queue was
+held, counts as sent each time that the spool took it. Jobs that came without a control file stand under -.
 With --since and --until segments are passed over that ended before, or began after, TIME, as 2026-11-26T22:00:00Z:
 an account has times for its segments, and none for each job. With --csv the lines are user,jobs,sent,printed below a
 line that says so.

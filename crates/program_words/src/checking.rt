@@ -19,7 +19,8 @@ const MORE_OF_CHECK: &str = "\
 Prints one line, as: ok pages 1024 page_size 4096 queues 2 printers 3
 With --sizes two lines more for each queue, as: queue lp jobs 85, queue lp held 64
 So many jobs fit into the account, each as large as the queue allows, between two moments without held jobs; and so many of them
-may be held at once by a server with --keep-room, which takes any number one after another.
+may be held at once by a server with --keep-room, which takes any number one after another. Where a queue takes no job at all the exit
+status is 2.
 With --printer, whose PRINTER and PLACE `serve --help` tells, or with `places` in the configuration, a line more for each printer, with its
 queue, as: printer 1 lp socket://10.0.0.9:9100
 A printer without a PLACE prints to a file of the directory that `serve --out DIR` names: printer 2 lp DIR/printer-2

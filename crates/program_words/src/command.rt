@@ -86,7 +86,7 @@ behind PATH are one command:
   stop SECONDS          the same, at the latest after so many seconds
   stop now              stops the server at once
 
-A server that says nothing for 10 seconds doesn't answer, but a stop is waited for. A word that begins with - stands
+A server that takes no connection or says nothing for 10 seconds doesn't answer, but a stop is waited for. A word that begins with - stands
 behind a word --.
 
 Examples:

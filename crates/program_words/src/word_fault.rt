@@ -26,7 +26,7 @@ pub enum WordFault {
     #[error("NUMBER isn't 0 to 999")]
     Number,
     /// The address to listen on isn't one.
-    #[error("ADDRESS isn't four numbers of 0 to 255 with points between")]
+    #[error("the ADDRESS of --bind isn't four numbers of 0 to 255 with points between")]
     Address,
     /// The address of a server isn't one.
     #[error("--server isn't four numbers of 0 to 255 with points between")]

@@ -14,7 +14,7 @@ use std::alloc::{AllocError, Global};
 use std::net::{Net, SocketAddr, TcpListener, TcpStream};
 
 /// How many connections may wait for their first lines.
-const PLACES: u64 = 64;
+pub(crate) const PLACES: u64 = 64;
 
 /// The name by which a browser on this machine asks.
 const LOCALHOST: &str = "localhost";
@@ -28,6 +28,8 @@ pub struct Board {
     pub hour: LastHour,
     /// From which second on the next look is due.
     pub due: u64,
+    /// The milliseconds from the server's start until the clock was last looked at.
+    pub now_ms: u64,
 }
 
 /// Who may come to the board, where no proxy is believed whom it comes for, and its name. AllocError where memory for them is refused.
@@ -62,12 +64,12 @@ pub fn open_board<R: Log + Net<Listener = TcpListener, Stream = TcpStream>>(
     };
     match Lobby::new(rt, alloc, listening) {
         Ok((lobby, waker, _port)) => {
-            let (hour, due) = (LastHour::new(alloc), 0);
             let board = Board {
                 lobby,
                 name,
-                hour,
-                due,
+                hour: LastHour::new(alloc),
+                due: 0,
+                now_ms: 0,
             };
             Ok(Some((board, waker)))
         }

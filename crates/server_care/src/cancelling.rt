@@ -5,12 +5,11 @@ use crate::commanding::AnswerLines;
 use crate::owned_job::OwnedJob;
 use control_lines::AnswerEnd;
 use log::Log;
-use server_folders::{AdmissionFault, DiskFault, FileRemoval, FiledJob, JobFolder};
+use server_folders::{FileRemoval, FiledJob, JobFolder, Unsent};
 use server_house::{HouseLedger, HouseSeat};
 use shared_spool::{Refusal, SeenJob, Unremoved};
 use standings::{JobName, JobNumber, JobStage, stage_of};
 use std::alloc::AllocError;
-use std::fmt;
 use std::fmt::Display;
 use std::fs::{File, Files};
 use std::rt::Clock;
@@ -24,27 +23,6 @@ const NO_JOB: &str = "the file isn't that of a kept job";
 
 /// How many jobs are told of that are fed again together, at most.
 const MOST_TOLD: usize = 1_000;
-
-/// Why a failed job isn't fed again.
-#[derive(Clone, Copy)]
-enum Unsent<'a> {
-    /// Its file can't be renamed, or isn't there.
-    Fault(DiskFault<'a>),
-    /// The file isn't that of a job of this server's, or the job waits already.
-    NoJob,
-    /// Memory was refused: it is fed after the next start.
-    Memory,
-}
-
-impl fmt::Display for Unsent<'_> {
-    fn fmt<W: fmt::Write>(&self, f: &mut fmt::Formatter<W>) -> fmt::Result {
-        match self {
-            Unsent::Fault(fault) => write!(f, "{fault}"),
-            Unsent::NoJob => f.write_str(NO_JOB),
-            Unsent::Memory => f.write_str("memory was refused"),
-        }
-    }
-}
 
 /// The name of a job in this file.
 fn filed_name(number: u64, job: &FiledJob) -> OwnedJob<'_> {
@@ -200,21 +178,14 @@ impl<R: Files<File = File> + Clock + Log + Wait, E: HouseLedger> Care<'_, '_, R,
         }
     }
 
-    /// Has a failed job of this folder fed again, by the number of its file. Answers whose it is, where that is known.
+    /// Has a failed job of this folder fed again, by the number of its file, and answers whose it is.
     fn resend_one<'k>(
         &self,
-        kept: &JobFolder<'k, R>,
+        kept: &'k JobFolder<'_, R>,
         number: u64,
-    ) -> Result<Option<FiledJob>, Unsent<'k>> {
-        kept.disk.resend(number).map_err(Unsent::Fault)?;
-        // Whose it is is read before the spool may have it printed.
-        let filed = kept.filed(self.hall.rt, self.hall.alloc, number);
+    ) -> Result<FiledJob, Unsent<'k>> {
         let config = &self.hall.oversight.config;
-        match kept.enter(self.hall.rt, self.hall.alloc, config, number) {
-            Ok(true) => Ok(filed.unwrap_or(None)),
-            Ok(false) | Err(AdmissionFault::Known | AdmissionFault::NoQueue) => Err(Unsent::NoJob),
-            Err(AdmissionFault::Memory) => Err(Unsent::Memory),
-        }
+        kept.resend(self.hall.rt, self.hall.alloc, config, number)
     }
 
     /// Has a job fed again that has failed, by the number of its file, and tells whose it is.
@@ -223,8 +194,7 @@ impl<R: Files<File = File> + Clock + Log + Wait, E: HouseLedger> Care<'_, '_, R,
             return self.refuse(NOT_KEPT);
         };
         match self.resend_one(kept, number) {
-            Ok(Some(filed)) => self.tell_done("resent", &filed_name(number, &filed)),
-            Ok(None) => AnswerLines::new(self.hall.alloc).end(AnswerEnd::Done),
+            Ok(filed) => self.tell_done("resent", &filed_name(number, &filed)),
             Err(Unsent::Memory) => Err(AllocError),
             Err(why) => self.refuse(why),
         }
@@ -280,7 +250,7 @@ impl<R: Files<File = File> + Clock + Log + Wait, E: HouseLedger> Care<'_, '_, R,
         is_told: bool,
     ) -> Result<(), AllocError> {
         match self.resend_one(kept, number) {
-            Ok(Some(filed)) if is_told => {
+            Ok(filed) if is_told => {
                 let name = filed_name(number, &filed);
                 let line = format!(in self.hall.alloc; "resent {name}")?;
                 answer.line(&line)

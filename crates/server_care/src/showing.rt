@@ -1,21 +1,23 @@
-//! The thread that shows the status of the server to browsers and to what monitors it: one request and one response a connection, one
-//! after another.
+//! The thread that shows the status of the server to browsers and to what monitors it: one request and one response a connection, many
+//! connections at a time.
 //!
-//! Each has bounded time, and the others wait in a lobby as the jobs' connections do, so that those that ask nothing take no thread. Two
-//! peers that halt delay the next by four seconds.
+//! A connection is taken out of the lobby once its first line has come, and is one of at most 128 exchanges from then on. No call waits
+//! for one of them alone, so those that halt hold up nobody; where there are too many, who has halted longest gives way.
 
-use crate::board::Board;
+use crate::board::{Board, PLACES};
 use crate::care::Care;
 use connection_lobby::Visit;
 use log::{Log, warn};
 use server_counts::{Look, ServerCounts};
-use server_house::{HouseLedger, Showing};
+use server_house::HouseLedger;
 use shared_spool::Sight;
 use spool_snapshot::Pages;
 use status_answers::{
-    Method, RequestReading, Resource, Scene, read_request, refusal_response, send_response,
-    status_response, timeout_response, unavailable_response,
+    Method, Resource, Scene, refusal_response, status_response, timeout_response,
+    unavailable_response,
 };
+use status_exchanges::{Exchanges, MOST_EXCHANGES};
+use status_request::RequestReading;
 use std::alloc::{AllocError, Global};
 use std::fs::{File, Files};
 use std::rt::Clock;
@@ -52,11 +54,13 @@ fn numbers_of(alloc: Global, sight: &Sight) -> Result<Vec<u64>, AllocError> {
 }
 
 impl<R: Files<File = File> + Clock + Log + Wait, E: HouseLedger> Care<'_, '_, R, E> {
-    /// The seconds since the server's start; none where the clock can't be read.
-    fn uptime(&self) -> u64 {
+    /// The milliseconds since the server's start; none where the clock can't be read.
+    fn uptime_ms(&self) -> u64 {
         let start = self.hall.oversight.start;
         let elapsed = start.and_then(|start| start.elapsed(self.hall.rt).ok());
-        elapsed.map_or(0, |elapsed| elapsed.as_secs())
+        elapsed.map_or(0, |elapsed| {
+            u64::try_from(elapsed.as_millis()).unwrap_or(u64::MAX)
+        })
     }
 
     /// What was counted since the server's start.
@@ -67,9 +71,10 @@ impl<R: Files<File = File> + Clock + Log + Wait, E: HouseLedger> Care<'_, '_, R,
         }
     }
 
-    /// Looks where the pages are, where that is due. What there is no memory for is passed over.
+    /// Looks at the clock, and where the pages are, where that is due. What there is no memory for is passed over.
     fn look(&self, board: &mut Board) {
-        let second = self.uptime();
+        board.now_ms = board.now_ms.max(self.uptime_ms());
+        let second = board.now_ms / 1_000;
         if second < board.due {
             return;
         }
@@ -107,9 +112,9 @@ impl<R: Files<File = File> + Clock + Log + Wait, E: HouseLedger> Care<'_, '_, R,
         status_response(alloc, &scene, method, resource)
     }
 
-    /// The response to a connection.
-    fn response_to(&self, board: &Board, visit: &Visit) -> Result<String, AllocError> {
-        match read_request(self.hall.rt, &visit.stream, board.name.as_bytes()) {
+    /// The response to what was read of a request.
+    fn response_to(&self, board: &Board, reading: RequestReading) -> Result<String, AllocError> {
+        match reading {
             RequestReading::Wanted { method, resource } => match self.draw(
                 board, method, resource,
             ) {
@@ -121,33 +126,64 @@ impl<R: Files<File = File> + Clock + Log + Wait, E: HouseLedger> Care<'_, '_, R,
         }
     }
 
-    /// Answers a connection. What goes wrong with one peer doesn't concern the next.
-    fn show(&self, board: &Board, visit: &Visit) {
-        match self.response_to(board, visit) {
-            Ok(response) => {
-                let _ = send_response(self.hall.rt, &visit.stream, response.as_str());
+    /// Takes up the exchange at a place, and answers it once it is known what it asks for.
+    fn serve(&self, board: &Board, exchanges: &mut Exchanges, at: usize) {
+        let Some(reading) = exchanges.turn(at, board.name.as_bytes(), board.now_ms) else {
+            return;
+        };
+        match self.response_to(board, reading) {
+            Ok(response) => exchanges.answer(at, response, board.now_ms),
+            Err(AllocError) => {
+                exchanges.end(at);
+                warn!(self.hall.rt; "memory was refused to show the status");
             }
-            Err(AllocError) =>
-                warn!(self.hall.rt; "{}: memory was refused to show the status", visit.peer),
         }
     }
 
-    /// Answers a connection, which whoever ends the server may end meanwhile.
-    fn show_to(&self, board: &Board, showing: &Showing, visit: &Visit) {
-        *showing.answered.lock(self.hall.rt) = visit.stream.try_clone().ok();
-        if !self.hall.ending.is_closed() {
-            self.show(board, visit);
+    /// Begins an exchange with a connection, and takes it up. What goes wrong with one peer doesn't concern the next.
+    fn welcome(&self, board: &Board, exchanges: &mut Exchanges, visit: Visit) {
+        let Visit { stream, peer, .. } = visit;
+        if stream.set_nonblocking(true).is_err() {
+            return;
         }
-        *showing.answered.lock(self.hall.rt) = None;
+        match exchanges.begin(stream, board.now_ms) {
+            Ok(at) => self.serve(board, exchanges, at),
+            Err(AllocError) => warn!(self.hall.rt; "{peer}: memory was refused to show the status"),
+        }
     }
 
-    /// Waits for a connection, until the next look is due.
-    fn wait_at(&self, board: &mut Board) {
-        let seconds = board.due.saturating_sub(self.uptime()).min(LOOK_SECONDS);
-        if let Err(error) = board
-            .lobby
-            .round(self.hall.rt, Some(seconds.saturating_mul(1_000)))
-        {
+    /// Begins an exchange with each connection whose first line has come. Whether there was one.
+    fn welcome_all(&self, board: &mut Board, exchanges: &mut Exchanges) -> bool {
+        let mut has_come = false;
+        for _ in 0..PLACES {
+            let Some(visit) = board.lobby.next_ready() else {
+                break;
+            };
+            self.welcome(board, exchanges, visit);
+            has_come = true;
+        }
+        has_come
+    }
+
+    /// Takes up each exchange, the last first: where one ends, the last takes its place.
+    fn serve_all(&self, board: &Board, exchanges: &mut Exchanges) {
+        let count = exchanges.count();
+        for passed in 0..MOST_EXCHANGES {
+            if passed >= count {
+                break;
+            }
+            self.serve(board, exchanges, count - passed - 1);
+        }
+    }
+
+    /// Sees to what has come to the lobby: at once where exchanges are open or connections have just come, and else once something has, or
+    /// the next look is due.
+    fn wait_at(&self, board: &mut Board, limit_ms: u64) {
+        let until_ms = board.due.saturating_mul(1_000);
+        let due_ms = until_ms
+            .saturating_sub(board.now_ms)
+            .min(LOOK_SECONDS * 1_000);
+        if let Err(error) = board.lobby.round(self.hall.rt, Some(limit_ms.min(due_ms))) {
             warn!(self.hall.rt; "the status can't be asked for: {error}");
             thread::sleep(self.hall.rt, Duration::from_millis(PAUSE_MS));
         }
@@ -155,28 +191,29 @@ impl<R: Files<File = File> + Clock + Log + Wait, E: HouseLedger> Care<'_, '_, R,
 
     /// Answers who asks for the status, until the spool is closed.
     pub fn show_all(&self, board: Board) {
-        let Some(showing) = &self.hall.showing else {
-            return;
-        };
         let mut board = board;
+        let mut exchanges = Exchanges::new(self.hall.alloc);
         for _ in self.hall.rt.forever() {
             if self.hall.ending.is_closed() {
                 break;
             }
             self.look(&mut board);
-            match board.lobby.next_ready() {
-                Some(visit) => self.show_to(&board, showing, &visit),
-                None => self.wait_at(&mut board),
+            let has_come = self.welcome_all(&mut board, &mut exchanges);
+            self.serve_all(&board, &mut exchanges);
+            let is_busy = exchanges.count() > 0;
+            if is_busy && !has_come {
+                exchanges.await_turn(board.lobby.descriptor());
             }
+            self.wait_at(&mut board, if is_busy || has_come { 0 } else { u64::MAX });
         }
     }
 }
 
-impl<R: Wait, E: HouseLedger> Care<'_, '_, R, E> {
+impl<R, E: HouseLedger> Care<'_, '_, R, E> {
     /// The status isn't shown any more, once the spool is closed.
     pub fn end_showing(&self) {
         if let Some(showing) = &self.hall.showing {
-            showing.end(self.hall.rt);
+            showing.end();
         }
     }
 }

@@ -125,6 +125,7 @@ impl<R: Files<File = File> + Clock + Log + Wait, E: HouseLedger> Care<'_, '_, R,
             printers.push(PrinterNotes {
                 stop: self.seen_stop(at + 1, now)?,
                 unreached: self.seen_delay(at + 1, now)?,
+                doubt: self.hall.oversight.doubts.of(self.hall.rt, at + 1),
             })?;
         }
         Ok(printers)

@@ -21,6 +21,7 @@ use server_house::{HouseLedger, HouseSeat};
 use shared_spool::{SeenJob, Sight};
 use spool_calls::Printer;
 use standings::{JobStage, is_awaited, stage_of};
+use std::fs::{File, Files};
 use std::rt::Clock;
 use std::sync::Wait;
 use std::thread;
@@ -61,7 +62,7 @@ fn is_whole(job: &SeenJob) -> bool {
     !matches!(stage_of(job), JobStage::Arriving)
 }
 
-impl<R: Clock + Log + Wait, E: HouseLedger> Care<'_, '_, R, E> {
+impl<R: Files<File = File> + Clock + Log + Wait, E: HouseLedger> Care<'_, '_, R, E> {
     /// Whether the pipe of a printer that runs has octets that its reader hasn't taken.
     fn has_full_pipe(&self, sight: &Sight) -> bool {
         let printers = sight.spool.printers.iter();
@@ -108,12 +109,27 @@ impl<R: Clock + Log + Wait, E: HouseLedger> Care<'_, '_, R, E> {
         warn!(self.hall.rt; "job {number} {queue} {user}@{host} {octets} octets is lost: {why}");
     }
 
-    /// Tells of each of these jobs that is whole, or of each that isn't, that it is lost.
+    /// Whether a job that isn't whole in the spool is whole in the folder of kept jobs, and stays there: it is being fed, or just was.
+    fn is_fed(&self, job: &SeenJob) -> bool {
+        let Some(kept) = &self.hall.kept else {
+            return false;
+        };
+        let place = job.queue.saturating_sub(1) as usize;
+        // While one of a sender is fed no other one of that sender comes to the queue through the spool.
+        let is_feeding = kept.disk.lines().is_feeding_of(place, job.sender);
+        is_feeding || kept.disk.file_of(job.number).is_some()
+    }
+
+    /// Tells of each of these jobs that is whole, or of each that isn't, that it is lost; but of none whose file stays.
     fn tell_each_lost(&self, jobs: &[SeenJob], whole: bool) {
-        let lost = jobs.iter().filter(|job| is_whole(job) == whole);
-        for (at, job) in lost.enumerate() {
+        let mut told = 0usize;
+        for job in jobs {
+            if is_whole(job) != whole || self.is_fed(job) {
+                continue;
+            }
             self.tell_lost(job);
-            if at % LINES == LINES - 1 {
+            told = told.saturating_add(1);
+            if told % LINES == 0 {
                 thread::sleep(self.hall.rt, Duration::from_millis(PAUSE_MS));
             }
         }

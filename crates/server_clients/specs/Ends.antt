@@ -1,5 +1,7 @@
 -- What is logged of the ends of sessions.
-use Rattle.std.specs.Prelude.{ℕ, List, Option, Some, None, codes}
+use Rattle.std.specs.Prelude.{ℕ, Bool, List, Option, Some, None, codes, not, true}
+use Rattle.lpd_values.specs.declared.refusal.Refusal.{Refusal}
+use Rattle.lpd_values.specs.declared.refusal.Refusal.TheVariants.{NotOpen}
 use Rattle.request_session.specs.declared.ending.SessionEnd.{SessionEnd}
 use Rattle.request_session.specs.declared.ending.SessionEnd.TheVariants as session
 
@@ -12,3 +14,8 @@ failure_text session.Broken = Some (codes "the connection ended in the middle")
 failure_text session.ReadFault = Some (codes "reading failed, or the peer was silent")
 failure_text session.WriteFault = Some (codes "writing failed")
 failure_text session.Memory = Some (codes "memory was refused")
+
+-- the log is told of a refusal, but of that of a job that isn't kept, of which it knows why
+abbrev pub is_told : Refusal → Bool → Bool
+is_told NotOpen is_unkept = not is_unkept
+is_told refusal is_unkept = true

@@ -2,9 +2,10 @@
 
 ghost use Rattle.std.specs.Int.NonZero.{non_zero_u64_get};
 ghost use Rattle.std.specs.Prelude.{◌≡◌, Some, max, option_map};
-ghost use Rattle.server_clients.specs.Ends.{failure_text};
+ghost use Rattle.server_clients.specs.Ends.{failure_text, is_told};
 ghost use Rattle.connection_lobby.specs.declared.desk.Serves.TheVariants.{All, NoJobs};
 
+use crate::asked_job::AskedJob;
 use crate::job_doors::JobDoors;
 use crate::queue_parts::PartDoors;
 use crate::served::Served;
@@ -15,6 +16,7 @@ use job_files::JobEnd;
 use kept_requests::Keeping;
 use log::{Log, warn};
 use lpd_commands::{OctetRead, OctetWrite};
+use lpd_values::Refusal;
 use noted_requests::Noting;
 use parked_requests::{Parking, Parks, Parted};
 use program_edge::{Limits, StreamReader, StreamWriter, pass_over};
@@ -87,6 +89,16 @@ fn failure_of(end: SessionEnd) -> Option<&'static str>
         SessionEnd::ReadFault => Some("reading failed, or the peer was silent"),
         SessionEnd::WriteFault => Some("writing failed"),
         SessionEnd::Memory => Some("memory was refused"),
+    }
+}
+
+/// Whether the log is told of a refusal: not of that of a job that isn't kept, of which it knows why.
+fn is_told(refusal: Refusal, is_unkept: bool) -> bool
+    ensures { result ≡ is_told refusal is_unkept }
+{
+    match refusal {
+        Refusal::NotOpen => !is_unkept,
+        _ => true,
     }
 }
 
@@ -171,19 +183,25 @@ impl<R: Files<File = File> + Clock + Wait + Log> Attendant<'_, '_, R> {
         Some(end)
     }
 
-    /// Has the files of the jobs taken away that a session has removed, and tells why a job of it wasn't kept.
-    fn settle<T: Served>(&self, requests: &mut T, peer: SocketAddr) {
-        requests.let_go(self.hall.rt, peer);
+    /// Has the files of the jobs taken away that a session has removed, and tells why a job of it wasn't kept. Whether there is such a job.
+    fn settle<T: Served>(&self, requests: &mut T, peer: SocketAddr) -> bool {
+        let is_unkept = requests.let_go(self.hall.rt, peer);
         if let Some(removed) = requests.take_removed() {
             self.hall.end_removed(removed);
         }
+        is_unkept
     }
 
-    /// Logs how a session ended, where that isn't well, and counts it where it was refused.
-    fn tell_end(&self, peer: SocketAddr, end: SessionEnd) {
+    /// Logs how a session ended, where that isn't well, with the job that it asked for last where it was refused, which is counted. Of one whose
+    /// job isn't kept, of which the log was told why, the refusal says nothing more.
+    fn tell_end(&self, peer: SocketAddr, end: SessionEnd, unkept: bool, asked: Option<AskedJob>) {
         let rt = self.hall.rt;
         if let SessionEnd::Refused(refusal) = end {
-            complain(rt, peer, &refusal);
+            match asked {
+                _ if !is_told(refusal, unkept) => {}
+                Some(asked) => warn!(rt; target: PART, "{peer}: {refusal}: {asked}"),
+                None => complain(rt, peer, &refusal),
+            }
             if let Some(book) = &self.hall.job_book {
                 book.note_refusal(rt, refusal);
             }
@@ -196,7 +214,7 @@ impl<R: Files<File = File> + Clock + Wait + Log> Attendant<'_, '_, R> {
     /// Serves a connection; `requests` carries out what it asks for.
     fn answer<T: Requests + Served>(
         &self,
-        requests: &mut T,
+        requests: &mut Noting<T, SessionNotes<'_, '_, R>>,
         input: &mut Option<Input>,
         visit: &Visit,
     ) {
@@ -208,8 +226,9 @@ impl<R: Files<File = File> + Clock + Wait + Log> Attendant<'_, '_, R> {
         let Some(end) = self.serve_visit(requests, input, visit) else {
             return;
         };
-        self.settle(requests, visit.peer);
-        self.tell_end(visit.peer, end);
+        let is_unkept = self.settle(requests, visit.peer);
+        let asked = requests.notes.take_asked();
+        self.tell_end(visit.peer, end, is_unkept, asked);
         if matches!(end, SessionEnd::Finished | SessionEnd::Refused(_)) {
             // A peer that is gone already has lost nothing.
             let _ = take_leave(rt, &visit.stream, hall.limits.leave_seconds, &hall.ending);

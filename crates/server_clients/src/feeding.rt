@@ -19,7 +19,7 @@ use lpd_values::Refusal;
 use noted_requests::Noting;
 use parked_lines::{FreePart, ParkedJob};
 use parked_requests::Through;
-use server_folders::{FedFolder, JobFolder, StoredJobs};
+use server_folders::{FedFolder, JobFolder, StoredJobs, aftermath};
 use server_house::{Hall, HouseLedger, HouseSeat, HouseSpool};
 use session::{Seated, SessionEnd};
 use shared_spool::Vacancy;
@@ -173,7 +173,8 @@ impl<R: Files<File = File> + Clock + Log + Wait, E: HouseLedger> Feeding<'_, '_,
         let is_passed = hand.folder.is_passed();
         hand.let_go();
         if let Some(fault) = hand.folder.take_fault() {
-            warn!(rt; target: PART, "{fault}: the job is printed again after the next start");
+            let becomes = aftermath(fault.is_absence());
+            warn!(rt; target: PART, "{fault}: {becomes}");
         }
         if is_passed {
             kept.disk.lines().enter(place, number);
@@ -184,6 +185,10 @@ impl<R: Files<File = File> + Clock + Log + Wait, E: HouseLedger> Feeding<'_, '_,
             return false;
         }
         kept.disk.lines().leave(place, number);
+        if fed == Fed::Absent {
+            warn!(rt; target: PART, "the job in file {number}.job isn't printed: its file is gone");
+            return true;
+        }
         let why = Unfed(fed);
         warn!(rt; target: PART, "the job in file {number}.job isn't printed, and stays where it is: {why}");
         true

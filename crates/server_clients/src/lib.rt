@@ -3,6 +3,7 @@
 #![tactic(auto)]
 
 mod answering;
+mod asked_job;
 mod feeding;
 mod job_doors;
 mod listening;

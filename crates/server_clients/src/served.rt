@@ -23,8 +23,8 @@ pub(crate) trait Served {
     /// The numbers of the jobs that its last removal took: each removal's are told once.
     fn take_removed(&mut self) -> Option<Vec<u64>>;
 
-    /// No job is in hand any more. The log is told of this peer's job that wasn't kept, and why.
-    fn let_go<L: Log>(&mut self, rt: &L, peer: SocketAddr);
+    /// No job is in hand any more. The log is told of this peer's job that wasn't kept, and why. Whether there was one.
+    fn let_go<L: Log>(&mut self, rt: &L, peer: SocketAddr) -> bool;
 }
 
 impl<R: Wait, E: HouseLedger> Served for HouseSeated<'_, R, E> {
@@ -32,7 +32,9 @@ impl<R: Wait, E: HouseLedger> Served for HouseSeated<'_, R, E> {
         Seated::take_removed(self)
     }
 
-    fn let_go<L: Log>(&mut self, _rt: &L, _peer: SocketAddr) {}
+    fn let_go<L: Log>(&mut self, _rt: &L, _peer: SocketAddr) -> bool {
+        false
+    }
 }
 
 impl<Q: Served, N> Served for Noting<Q, N> {
@@ -40,8 +42,8 @@ impl<Q: Served, N> Served for Noting<Q, N> {
         self.inner.take_removed()
     }
 
-    fn let_go<L: Log>(&mut self, rt: &L, peer: SocketAddr) {
-        self.inner.let_go(rt, peer);
+    fn let_go<L: Log>(&mut self, rt: &L, peer: SocketAddr) -> bool {
+        self.inner.let_go(rt, peer)
     }
 }
 
@@ -50,8 +52,8 @@ impl<Q: Served, P> Served for Parted<Q, P> {
         self.inner.take_removed()
     }
 
-    fn let_go<L: Log>(&mut self, rt: &L, peer: SocketAddr) {
-        self.inner.let_go(rt, peer);
+    fn let_go<L: Log>(&mut self, rt: &L, peer: SocketAddr) -> bool {
+        self.inner.let_go(rt, peer)
     }
 }
 
@@ -60,9 +62,9 @@ impl<Q: Served + Requests, W: JobWays> Served for Parking<Q, W> {
         self.inner.take_removed()
     }
 
-    fn let_go<L: Log>(&mut self, rt: &L, peer: SocketAddr) {
+    fn let_go<L: Log>(&mut self, rt: &L, peer: SocketAddr) -> bool {
         Parking::let_go(self);
-        self.inner.let_go(rt, peer);
+        self.inner.let_go(rt, peer)
     }
 }
 
@@ -71,10 +73,12 @@ impl<Q: Served + Parks, R: Files<File = File> + Wait> Served for Keeping<Q, Disk
         self.inner.take_removed()
     }
 
-    fn let_go<L: Log>(&mut self, rt: &L, peer: SocketAddr) {
+    fn let_go<L: Log>(&mut self, rt: &L, peer: SocketAddr) -> bool {
         self.hand.let_go();
         self.inner.let_go(rt, peer);
-        match (self.given_up.take(), self.hand.folder.take_fault()) {
+        let (cause, fault) = (self.given_up.take(), self.hand.folder.take_fault());
+        let is_unkept = cause.is_some_and(|cause| cause != Cause::Refused);
+        match (cause, fault) {
             (None | Some(Cause::Refused), None) => {}
             (Some(Cause::Unfit), None) => {
                 warn!(rt; target: PART, "{peer}: a job isn't kept: it couldn't be read back");
@@ -85,5 +89,6 @@ impl<Q: Served + Parks, R: Files<File = File> + Wait> Served for Keeping<Q, Disk
             (None, Some(fault)) => warn!(rt; target: PART, "{peer}: {fault}"),
             (Some(_), Some(fault)) => warn!(rt; target: PART, "{peer}: a job isn't kept: {fault}"),
         }
+        is_unkept
     }
 }

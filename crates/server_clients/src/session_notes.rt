@@ -1,5 +1,6 @@
 //! What a session's jobs are told to. A job that goes beside the spool has no number of acceptance, and isn't noted before it is fed.
 
+use crate::asked_job::AskedJob;
 use control_file::Control;
 use log::Log;
 use lpd_values::FileName;
@@ -17,6 +18,8 @@ pub(crate) struct SessionNotes<'h, 'a, R> {
     hall: &'h Hall<'a, R>,
     rt: &'a R,
     book: &'h Option<JobBook>,
+    /// The job that was asked for last, for the log.
+    asked: Option<AskedJob>,
 }
 
 impl<'h, 'a, R> SessionNotes<'h, 'a, R> {
@@ -26,11 +29,28 @@ impl<'h, 'a, R> SessionNotes<'h, 'a, R> {
             hall,
             rt: hall.rt,
             book: &hall.job_book,
+            asked: None,
         }
+    }
+
+    /// The job that was asked for last, if one was since this was called.
+    pub(crate) fn take_asked(&mut self) -> Option<AskedJob> {
+        self.asked.take()
     }
 }
 
 impl<R: Files<File = File> + Clock + Log + Wait> JobNotes for SessionNotes<'_, '_, R> {
+    fn asked_for(&mut self, queue: &[u8]) {
+        let hall = self.hall;
+        self.asked = AskedJob::new(hall.alloc, &hall.oversight.config, queue).ok();
+    }
+
+    fn file_asked(&mut self, count: u64) {
+        if let Some(asked) = &mut self.asked {
+            asked.add_file(count);
+        }
+    }
+
     fn opened(&mut self, job: u64, _sender: u32, queue: &[u8]) {
         if job == BESIDE {
             return;
@@ -59,6 +79,9 @@ impl<R: Files<File = File> + Clock + Log + Wait> JobNotes for SessionNotes<'_, '
     }
 
     fn controlled(&mut self, job: u64, control: &Control) {
+        if let Some(asked) = &mut self.asked {
+            asked.name_user(self.hall.alloc, control.user.as_slice());
+        }
         if job == BESIDE {
             return;
         }

@@ -1,4 +1,4 @@
-//! A folder of the operating system that one server has at a time: how it is made, its lock, and which names are in it.
+//! A folder of the operating system that one server has at a time: how it is made, its locks, and which names are in it.
 #![tactic(auto)]
 
 mod fault;
@@ -9,5 +9,6 @@ mod making;
 
 pub use fault::{FolderError, FolderUse};
 pub use listing::names;
+pub use lock::FolderHold;
 pub use looking::look;
 pub use making::{FILE_MODE, take};

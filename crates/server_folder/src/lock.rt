@@ -1,5 +1,5 @@
-//! The lock of a folder: the file `lock` in it, locked by `flock` as long as a server has the folder. That the file exists says
-//! nothing.
+//! The locks of a folder, by `flock`, as long as a server has it: on the folder itself, which lasts where somebody takes a file of it away, and
+//! on the file `lock` in it, which is all that a server of an earlier version looks at. That the file exists says nothing.
 
 use crate::fault::{FolderError, FolderUse};
 use crate::making::FILE_MODE;
@@ -32,24 +32,44 @@ fn check_file<R: Files<File = File>>(rt: &R, path: &str) -> io::Result<()> {
     }
 }
 
-/// Takes the lock of the folder, which lasts as long as the file.
-pub(crate) fn take_lock<R: Files<File = File>>(
+/// What a server has of a folder, as long as this lasts.
+#[derive(Drop)]
+pub struct FolderHold {
+    _folder: File,
+    _lock: File,
+}
+
+/// What a lock of the folder itself says that was tried. Some file systems lock no folders: then it says nothing.
+fn folder_answer(tried: Result<(), TryLockError>, purpose: FolderUse) -> Result<(), FolderError> {
+    match tried {
+        Err(TryLockError::WouldBlock) => Err(FolderError::InUse(purpose)),
+        Ok(()) | Err(TryLockError::Error(_)) => Ok(()),
+    }
+}
+
+/// Takes the locks of the folder.
+pub(crate) fn take_locks<R: Files<File = File>>(
     rt: &R,
     alloc: Global,
     purpose: FolderUse,
     folder: &str,
-) -> Result<File, FolderError> {
+) -> Result<FolderHold, FolderError> {
     let path = path_in(alloc, folder).map_err(io::Error::from)?;
     check_file(rt, path.as_str())?;
     let mut options = OpenOptions::new();
     options.write(true).create(true).mode(FILE_MODE);
-    let file = options.open(rt, path.as_str())?;
-    answer_of(file.try_lock(), purpose)?;
-    Ok(file)
+    let lock = options.open(rt, path.as_str())?;
+    answer_of(lock.try_lock(), purpose)?;
+    let folder = File::open(rt, folder)?;
+    folder_answer(folder.try_lock(), purpose)?;
+    Ok(FolderHold {
+        _folder: folder,
+        _lock: lock,
+    })
 }
 
-/// Whether no server has the folder. The lock is shared, and given back at once: it is never made here.
-pub(crate) fn check_lock<R: Files<File = File>>(
+/// Whether no server has the folder. The locks are shared, and given back at once: none is made here.
+pub(crate) fn check_locks<R: Files<File = File>>(
     rt: &R,
     alloc: Global,
     purpose: FolderUse,
@@ -57,6 +77,7 @@ pub(crate) fn check_lock<R: Files<File = File>>(
 ) -> Result<(), FolderError> {
     let path = path_in(alloc, folder).map_err(io::Error::from)?;
     check_file(rt, path.as_str())?;
+    folder_answer(File::open(rt, folder)?.try_lock_shared(), purpose)?;
     match OpenOptions::new().write(true).open(rt, path.as_str()) {
         Ok(file) => answer_of(file.try_lock_shared(), purpose),
         Err(cause) if cause.kind() == io::ErrorKind::NotFound => Ok(()),

@@ -2,7 +2,7 @@
 
 use crate::fault::{FolderError, FolderUse};
 use crate::listing::names;
-use crate::lock::check_lock;
+use crate::lock::check_locks;
 use std::alloc::Global;
 use std::fs::{File, Files};
 use std::io;
@@ -32,7 +32,7 @@ pub fn look<R: Files<File = File>>(
 ) -> Result<Option<Vec<u8>>, FolderError> {
     match names(rt, alloc, path) {
         Ok(names) => {
-            check_lock(rt, alloc, purpose, path)?;
+            check_locks(rt, alloc, purpose, path)?;
             Ok(Some(names))
         }
         Err(cause) if cause.kind() == io::ErrorKind::NotFound => {

@@ -1,7 +1,7 @@
 //! Taking a folder for one server.
 
 use crate::fault::{FolderError, FolderUse};
-use crate::lock::take_lock;
+use crate::lock::{FolderHold, take_locks};
 use std::alloc::Global;
 use std::fs::{File, Files};
 use std::io;
@@ -26,18 +26,17 @@ fn make<R: Files<File = File>>(rt: &R, alloc: Global, path: &str) -> io::Result<
     File::open(rt, above.as_str())?.sync_all()
 }
 
-/// Takes the folder at this path for this, which is made where nothing is there: this server has it as long as the file that is
-/// answered.
+/// Takes the folder at this path for this, which is made where nothing is there: this server has it as long as what is answered lasts.
 ///
 /// # Errors
 ///
-/// `InUse` where another server has it; `Failed` where it can't be made, or its lock can't be opened, or memory is refused.
+/// `InUse` where another server has it; `Failed` where it can't be made, or its lock can't be opened, or it can't be read, or memory is refused.
 pub fn take<R: Files<File = File>>(
     rt: &R,
     alloc: Global,
     purpose: FolderUse,
     path: &str,
-) -> Result<File, FolderError> {
+) -> Result<FolderHold, FolderError> {
     make(rt, alloc, path)?;
-    take_lock(rt, alloc, purpose, path)
+    take_locks(rt, alloc, purpose, path)
 }

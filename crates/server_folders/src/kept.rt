@@ -4,19 +4,20 @@ ghost use Rattle.std.specs.Prelude.{◌≡◌, IfErr};
 ghost use Rattle.program_edge.specs.Openings.{IsUnopened};
 ghost use Rattle.program_edge.specs.declared.opening.StartPart.{StartPart};
 ghost use Rattle.program_edge.specs.declared.opening.StartPart.TheVariants.{Spool};
+ghost use Rattle.server_folders.specs.Ended.{aftermath_text};
 
 use crate::holds::{read_holds, write_holds};
 use crate::owner::{FiledJob, filed_job};
+use crate::recounting::Recounted;
 use crate::refusal::refused;
 use crate::scanned::SeekingReader;
 use crate::stored::StoredJobs;
 use config_values::Config;
 use job_disk::{AdmissionFault, Disk, DiskFault, DiskStore, FileRemoval};
-use job_files::JobEnd;
+use job_files::{JobEnd, NUMBERS_END};
 use job_store::recover;
 use log::{Log, warn};
 use program_edge::{StartFault, StartPart};
-use status_lines::KeptJobs;
 use std::alloc::Global;
 use std::collections::VecDeque;
 use std::fs::{File, Files};
@@ -25,13 +26,24 @@ use std::sync::{Condvar, Mutex, Wait};
 use std::time::Duration;
 use std::{io, mem};
 
+/// What becomes of a job that has ended, and whose file couldn't be taken away or renamed: of one whose file was gone nothing.
+pub fn aftermath(was_gone: bool) -> &'static str
+    ensures { result.now ≡ aftermath_text was_gone }
+{
+    if was_gone {
+        "somebody took the job's file away"
+    } else {
+        "the job is printed again after the next start"
+    }
+}
+
 /// What is known of a folder beside its files.
 ///
 /// ```text
 ///   a start ---> reading ---> read: jobs may go through the spool
 /// ```
 #[derive(Drop)]
-struct FolderState {
+pub(crate) struct FolderState {
     /// The numbers of the files that a start found and that weren't read yet, in order.
     found: VecDeque<u64>,
     /// Which queues are held, by their places.
@@ -40,16 +52,40 @@ struct FolderState {
     removed: Vec<u64>,
     /// Something changed by which a job may have to be fed.
     is_rung: bool,
+    /// When the folder was read last to count what it has.
+    pub(crate) recounted: Option<Recounted>,
+}
+
+/// The numbers of the whole files that a start finds, in order; what was coming is removed. Else why they aren't found, where the folder says.
+fn found_in<'d, R: Files<File = File> + Wait>(
+    alloc: Global,
+    disk: &'d Disk<'d, R>,
+) -> Result<Vec<u64>, Option<DiskFault<'d>>> {
+    let mut stored = StoredJobs::new(disk);
+    match recover(alloc, &mut stored) {
+        Ok(found) => Ok(found.jobs),
+        Err(_) => Err(stored.take_fault()),
+    }
+}
+
+/// Tells which files are named as jobs' files are, but with numbers that these can't have.
+fn tell_beyond<R: Files<File = File> + Log + Wait>(rt: &R, path: &str, disk: &Disk<'_, R>) {
+    let Ok(names) = disk.names_beyond() else {
+        return;
+    };
+    for name in &names {
+        warn!(rt; "{path}/{name} is no job, and stays: its number is {NUMBERS_END} or greater");
+    }
 }
 
 /// The folder in which jobs are kept.
 #[derive(Drop)]
 pub struct JobFolder<'a, R> {
     pub disk: Disk<'a, R>,
-    path: &'a str,
+    pub(crate) path: &'a str,
     /// How many octets a page has.
     pub(crate) page_size: u32,
-    state: Mutex<FolderState>,
+    pub(crate) state: Mutex<FolderState>,
     bell: Condvar,
 }
 
@@ -71,13 +107,18 @@ impl<'a, R: Files<File = File> + Log + Wait> JobFolder<'a, R> {
             Ok(disk) => disk,
             Err(error) => return Err(refused(rt, alloc, StartPart::Spool, path, &error)),
         };
-        let numbers = match recover(alloc, &mut StoredJobs::new(&disk)) {
-            Ok(found) => found.jobs,
-            Err(_) => {
+        let numbers = match found_in(alloc, &disk) {
+            Ok(numbers) => numbers,
+            Err(Some(fault)) => {
+                let why = fault.in_folder();
+                return Err(refused(rt, alloc, StartPart::Spool, path, &why));
+            }
+            Err(None) => {
                 let why = "its jobs can't be found";
                 return Err(refused(rt, alloc, StartPart::Spool, path, &why));
             }
         };
+        tell_beyond(rt, path, &disk);
         let mut found = VecDeque::new(alloc);
         for number in numbers {
             found.push_back(number)?;
@@ -92,6 +133,7 @@ impl<'a, R: Files<File = File> + Log + Wait> JobFolder<'a, R> {
                 held,
                 removed: Vec::new(alloc),
                 is_rung: false,
+                recounted: None,
             }),
             bell: Condvar::new(),
         })
@@ -229,25 +271,16 @@ impl<'a, R: Files<File = File> + Log + Wait> JobFolder<'a, R> {
         mem::replace(&mut state.removed, Vec::new(alloc))
     }
 
-    /// How many jobs wait in the folder to be fed, and how many in it have failed.
-    pub fn counts(&self, rt: &R) -> KeptJobs {
-        let unread = self.state.lock(rt).found.len();
-        KeptJobs {
-            waiting: self.disk.waiting().saturating_add(unread) as u64,
-            failed: self.disk.failed() as u64,
-        }
-    }
-
-    /// How many whole jobs are in the folder, also those that the spool has: what a server leaves to the next one.
-    pub fn left(&self, rt: &R) -> u64 {
-        let unread = self.state.lock(rt).found.len();
-        self.disk.left().saturating_add(unread) as u64
+    /// How many of the jobs that the start found aren't read yet.
+    pub(crate) fn unread(&self, rt: &R) -> usize {
+        self.state.lock(rt).found.len()
     }
 
     /// Has the file of a job that has ended taken away, or renamed. The log is told where that fails.
     pub fn end(&self, rt: &R, job: u64, end: JobEnd) {
         if let Err(fault) = self.disk.end(job, end) {
-            warn!(rt; "{fault}: the job is printed again after the next start");
+            let becomes = aftermath(fault.is_absence());
+            warn!(rt; "{fault}: {becomes}");
         }
         self.ring(rt);
     }

@@ -35,7 +35,7 @@ pub struct FiledJob {
 
 /// Why a file doesn't say whose its job is.
 #[derive(Clone, Copy, Debug, PartialEq, Eq)]
-pub(crate) enum OwnerFault {
+pub enum OwnerFault {
     /// It doesn't begin as a kept job.
     NoJob,
     /// It is of another version of this program.

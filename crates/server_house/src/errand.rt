@@ -54,6 +54,13 @@ impl<R: Files<File = File> + Clock + Log + Wait, E: HouseLedger> Errand for Hous
         self.hall.oversight.delays.end(self.hall.rt, printer);
     }
 
+    fn note_end(&self, printer: u32, doubtful: Option<u64>) {
+        self.hall
+            .oversight
+            .doubts
+            .note(self.hall.rt, printer, doubtful);
+    }
+
     fn first_try(&self, printer: u32, job: u64) -> Option<Instant> {
         let kept = self.hall.kept.as_ref()?;
         let file = kept.disk.file_of(job)?;

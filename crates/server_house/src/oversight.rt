@@ -2,7 +2,7 @@
 
 use config_values::Config;
 use mio::Waker;
-use server_notes::{Delays, Standstills};
+use server_notes::{Delays, Doubts, Standstills};
 use std::alloc::{AllocError, Global};
 use std::fs::File;
 use std::rt::Clock;
@@ -20,6 +20,8 @@ pub struct Oversight {
     pub standstills: Standstills,
     /// At which printers nothing of a page goes.
     pub delays: Delays,
+    /// Of which printed jobs it isn't known whether all of them came.
+    pub doubts: Doubts,
     /// The printers' pipes, by the printers' numbers, from 1, where a steward looks after it.
     pub pipes: Vec<Option<File>>,
     // How many connections wait in the lobby.
@@ -34,11 +36,13 @@ impl Oversight {
         let config = Config::copy_of(alloc, config)?;
         let standstills = Standstills::new(alloc, config.printer_count())?;
         let delays = Delays::new(alloc, config.printer_count())?;
+        let doubts = Doubts::new(alloc, config.printer_count())?;
         Ok(Oversight {
             config,
             start: None,
             standstills,
             delays,
+            doubts,
             pipes: Vec::new(alloc),
             in_lobby: AtomicU64::new(0),
             waker: None,

@@ -3,6 +3,7 @@
 #![tactic(auto)]
 
 mod delays;
+mod doubts;
 mod ending;
 mod job_book;
 mod job_lines;
@@ -15,6 +16,7 @@ mod standstills;
 mod withdrawals;
 
 pub use delays::{Delay, DelayCause, Delays};
+pub use doubts::Doubts;
 pub use ending::ServerEnding;
 pub use job_book::JobBook;
 pub use job_lines::{JOB_LINES, JobOutcome};

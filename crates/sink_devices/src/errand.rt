@@ -23,6 +23,9 @@ pub trait Errand {
     /// The printer of this number has taken octets again.
     fn note_taken(&self, printer: u32);
 
+    /// A job has ended at the printer of this number: this one, of which it isn't known whether its last octets came, or one without a doubt.
+    fn note_end(&self, printer: u32, doubtful: Option<u64>);
+
     /// When this job was tried first at the printer of this number, also before it was put back. None where that isn't known.
     fn first_try(&self, printer: u32, job: u64) -> Option<Instant>;
 

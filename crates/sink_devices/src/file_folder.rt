@@ -22,6 +22,20 @@ const TRIES: u32 = 1_000;
 /// Who may read and write the files: their owner both, its group read.
 const MODE: u32 = 0o640;
 
+/// The name of the hidden file by which it is tried whether a folder takes any.
+const TRIAL: &str = ".hurgwaye-trial";
+
+/// Tries whether a file can be made in the folder at this path, and takes it away again. An error where it can't.
+pub fn try_folder<R: Files<File = File>>(rt: &R, alloc: Global, path: &str) -> io::Result<()> {
+    let trial = format!(in alloc; "{path}/{TRIAL}")?;
+    let mut options = OpenOptions::new();
+    // One that a server left which was killed amid this is taken.
+    options.write(true).create(true).mode(MODE);
+    let file = options.open(rt, trial.as_str())?;
+    drop(file);
+    fs::remove_file(rt, trial.as_str())
+}
+
 /// A folder of the file system: jobs as `job-NNNNNNNNNN`, by numbers of its own, and a hidden file with the number of the job
 /// that is printed.
 #[derive(Drop)]

@@ -15,7 +15,7 @@ mod waiting;
 
 pub use causes::Causes;
 pub use errand::Errand;
-pub use file_folder::FileFolder;
+pub use file_folder::{FileFolder, try_folder};
 pub use folder_names::{FolderNames, names_of};
 pub use pauses::{Pauses, pause_seconds};
 pub use tcp_dial::TcpDial;

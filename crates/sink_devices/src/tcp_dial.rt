@@ -240,8 +240,9 @@ impl<'a, R: Net + Clock + Log, Q: Errand> TcpDial<'a, R, Q> {
         End::Late
     }
 
-    /// Tells that it isn't known whether the printer has all octets of the job.
+    /// Tells and notes that it isn't known whether the printer has all octets of the job.
     fn tell_doubt<W: Display>(&self, why: &W) {
+        self.errand.note_end(self.printer, Some(self.job));
         let TcpDial {
             printer,
             job,
@@ -309,6 +310,7 @@ impl<'a, R: Net + Clock + Log, Q: Errand> Dial for TcpDial<'a, R, Q> {
         match self.end(&mut connection) {
             End::Ended => {
                 self.unended = self.unended.after(true);
+                self.errand.note_end(self.printer, None);
                 return Ok(());
             }
             End::Failed(error) => {

@@ -8,6 +8,6 @@ mod settings;
 
 pub use config_values::Config;
 pub use laws::each_text_is_decided;
-pub use places::{PlacesFault, ToldPlace, read_places};
-pub use reading::read;
+pub use places::{PLACES, PlacesFault, ToldPlace, read_places};
+pub use reading::{is_name, read};
 pub use settings::{ConfigFault, Key};

@@ -17,7 +17,7 @@ use thiserror::Error;
 use toml::{Table, Value};
 
 /// The key in the table of a queue.
-const PLACES: &str = "places";
+pub const PLACES: &str = "places";
 
 /// What a text says that a printer prints to.
 #[derive(Debug, Drop)]

@@ -185,7 +185,7 @@ fn name(table: &Table) -> Result<&str, ConfigFault>
 }
 
 /// Whether a queue may have this name: 1 to 64 octets, each from 21 to 7E in hexadecimal.
-fn is_name(name: &str) -> bool
+pub fn is_name(name: &str) -> bool
     ensures { result ≡ F.is_name name.now }
 {
     let octets = name.as_bytes();

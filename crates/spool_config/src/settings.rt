@@ -32,7 +32,7 @@ pub enum Key {
 
 impl Key {
     /// The word under which it stands in its table.
-    pub(crate) fn word(self) -> &'static str
+    pub fn word(self) -> &'static str
         ensures { result.now ≡ word_of self }
     {
         match self {
@@ -48,7 +48,7 @@ impl Key {
     }
 
     /// The most that its number may be; at `queue` the most queues, at `name` the most octets.
-    pub(crate) fn most(self) -> u32
+    pub fn most(self) -> u32
         ensures { result ≡ most_of self }
     {
         match self {

@@ -22,6 +22,8 @@ pub struct PrinterNotes {
     pub stop: Option<SeenTrouble>,
     /// Why nothing of the page at it goes: it isn't reached, or takes nothing for long.
     pub unreached: Option<SeenTrouble>,
+    /// The last job that was printed there of which it isn't known whether its last octets came.
+    pub doubt: Option<u64>,
 }
 
 /// What the edge of a server notes beside its spool.

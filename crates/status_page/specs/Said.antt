@@ -54,6 +54,10 @@ printer_remark (printer.PutOff seconds) cause = since_words seconds cause ++ cod
 printer_remark (printer.Stopped None) cause = []
 printer_remark (printer.Stopped (Some seconds)) cause = since_words seconds cause
 
+-- of which printed job it isn't known whether all of it came
+abbrev pub doubt_words : ℕ → List ℕ
+doubt_words number = codes "job " ++ (decimal number ++ codes " was printed, but its last octets may not have come")
+
 abbrev pub printer_kind : PrinterStanding → List ℕ
 printer_kind printer.Idle = codes "idle"
 printer_kind printer.Held = codes "idle"

@@ -1,7 +1,7 @@
 //! The printers: first those that need somebody, and under the jobs the queues, each with its printers.
 
 use crate::figures::Grouped;
-use crate::said::{ParkedCount, PrinterRemark, PrinterWord, printer_kind};
+use crate::said::{DoubtWords, ParkedCount, PrinterRemark, PrinterWord, printer_kind};
 use config_values::Queue;
 use html_page::{Attribute, AttributeName, HtmlPage, Tag, class, id};
 use spool_calls::Printer;
@@ -42,6 +42,10 @@ fn printer_card(
     }
     page.element(Tag::Span, &[], word.as_str());
     page.element(Tag::Small, &[], remark.as_str());
+    if let Some(job) = noted.printers.get(at).and_then(|notes| notes.doubt) {
+        let said = page.text(format!(in alloc; "{}", DoubtWords(job)));
+        page.element(Tag::Small, &[], said.as_str());
+    }
     page.close();
 }
 

@@ -1,7 +1,7 @@
 //! What the page says of a printer, a job, the spool and the pool, before it is put there.
 
 ghost use Rattle.std.specs.Prelude.{◌≡◌};
-ghost use Rattle.status_page.specs.Said.{column_words, job_kind, job_word, parked_words, place_count, place_words, printer_kind, printer_remark, printer_word, sender_octets, since_words, spool_word, there_words};
+ghost use Rattle.status_page.specs.Said.{column_words, doubt_words, job_kind, job_word, parked_words, place_count, place_words, printer_kind, printer_remark, printer_word, sender_octets, since_words, spool_word, there_words};
 
 use crate::figures::{Grouped, Size, Span};
 use html_page::Tag;
@@ -99,6 +99,24 @@ impl fmt::Display for PrinterRemark<'_> {
             } => { write!(f, "{}", SinceCause { seconds, cause }) }
             PrinterStanding::Stopped { seconds: None } => Ok(()),
         }
+    }
+}
+
+/// Of which printed job it isn't known whether all of it came.
+#[derive(Clone, Copy)]
+pub(crate) struct DoubtWords(pub(crate) u64);
+
+impl fmt::Display for DoubtWords {
+    ghost use Rattle.std.specs.Prelude.{Some};
+
+    ghost output = { λ doubt. Some (doubt_words doubt.0) };
+
+    fn fmt<W: fmt::Write>(&self, f: &mut fmt::Formatter<W>) -> fmt::Result {
+        write!(
+            f,
+            "job {} was printed, but its last octets may not have come",
+            self.0
+        )
     }
 }
 

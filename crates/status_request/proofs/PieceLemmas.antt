@@ -1,5 +1,8 @@
 -- Octets behind those that came before, and what stands before a question mark.
-use Rattle.std.proofs.Common.{◌≡◌, ◌≤◌, ℕ, ◌+◌, Bool, true, false, cond, ltb, List, ◌++◌, length, take, Some, None, refl, ap, sym, ◌∙◌}
+use Rattle.std.proofs.Common.{◌≡◌, ◌<◌, ◌≤◌, ℕ, ◌+◌, Bool, true, false, not, cond, ltb, List, ◌++◌, length, get_or, take, drop, ◌-◌, Some, None, refl, ap, sym, ◌∙◌, arith}
+use Rattle.std.proofs.lemmas.Grind.{common_steps}
+use Rattle.std.proofs.lemmas.List.Sums.{prefix_len_is}
+use Rattle.std.specs.List.{position_or_len}
 use Rattle.std.proofs.lemmas.List.{length-take-le, take_all, take-append-le}
 use Rattle.std.proofs.lemmas.Bool.{ltb-false}
 use Rattle.std.proofs.Math.Seq.{take-append-add}
@@ -22,3 +25,11 @@ none_past place xs h = past (ltb place (length xs)) (ltb-false place (length xs)
     past : (went : Bool) → (went ≡ false → length xs ≤ place) → None ≡ cond went (Some place) None → xs ≡ take place xs
     past true low h = cc
     past false low h = sym (take_all place xs (low refl))
+
+-- the first place at which a test passes
+pub place_by : (p : ℕ → Bool) (text : List ℕ) (i : ℕ) → i ≤ length text → ((k : ℕ) → k < i → p (get_or text k 0) ≡ false) → (i < length text → p (get_or text i 0) ≡ true) → position_or_len p text ≡ i
+place_by p text i within before here = prefix_len_is (λ b. not (p b)) text i 0 within (λ k h. ap not (before k h)) (λ h. ap not (here h))
+
+-- `&s[d..]` is all that follows
+pub whole_rest : (s : List ℕ) (d : ℕ) → take (length s - d) (drop d s) ≡ drop d s
+whole_rest s d = grind (arith, common_steps)

@@ -9,16 +9,16 @@ use Rattle.status_request.specs.declared.judged.RequestReading.TheVariants.{More
 use Rattle.status_request.specs.declared.judged.RequestRefusal.{RequestRefusal}
 use Rattle.status_request.specs.declared.judged.RequestRefusal.TheVariants.{BadRequest, OtherHost, NotFound, MethodNotAllowed, TooLarge}
 use Rattle.status_request.specs.declared.judged.TheConstants.{MOST_OCTETS, MOST_FIELDS}
-use Rattle.status_request.specs.Asked.{AreHere, host_values, method_name, path_of, resource_path}
+use Rattle.status_request.specs.Asked.{IsServerNamed, host_values, method_name, path_of, resource_path}
 
--- A request is for the server of this name: it has one field Host, which names that, or in HTTP/1.0 perhaps none (RFC 9112, section 3.2).
-abbrev pub IsNamed : (name : List ℕ) (minor : ℕ) (fields : List (List ℕ × List ℕ)) → Type 0
-IsNamed name minor fields =
-    let count = length (host_values fields) in ((count ≡ 1) ⊎ ((count ≡ 0) × (minor ≡ 0))) × AreHere name fields
+-- A request is for the server of this name: it has one field Host, or in HTTP/1.0 perhaps none (RFC 9112, section 3.2), and names that.
+abbrev pub IsNamed : (name : List ℕ) (minor : ℕ) (target : List ℕ) (fields : List (List ℕ × List ℕ)) → Type 0
+IsNamed name minor target fields =
+    let count = length (host_values fields) in ((count ≡ 1) ⊎ ((count ≡ 0) × (minor ≡ 0))) × IsServerNamed name target fields
 
 -- the server of this name is meant by a head
 abbrev pub IsMeant : List ℕ → RequestHead → Type 0
-IsMeant name head = IsNamed name head.minor (map name_and_value head.fields)
+IsMeant name head = IsNamed name head.minor head.target (map name_and_value head.fields)
 
 -- the octets begin with a whole head, of which that holds
 abbrev pub HasHead : List ℕ → (RequestHead → Type 0) → Type 0

@@ -1,14 +1,16 @@
-//! Which server a request is for: its fields Host.
+//! Which server a request is for: its target, where that is in absolute form, and its fields Host.
 //!
-//! Such a field has to name an address, `localhost` or the name of `--status-host`: a name that somebody else's page points here is none
+//! These have to name an address, `localhost` or the name of `--status-host`: a name that somebody else's page points here is none
 //! of these.
 
 ghost use Rattle.std.specs.Prelude.{◌≡◌, ◌↔◌, ◌≤◌, All, IsTrue, length, map};
 ghost use Rattle.httparse.specs.Spans.{IsHeaderWithin, header_bytes};
-ghost use Rattle.status_request.specs.Asked.{AreHere, host_values};
+ghost use Rattle.status_request.specs.Asked.{AreHere, IsServerNamed, host_values};
 ghost use Rattle.status_request.specs.Request.{IsNamed};
 
-use crate::asked::{is_host, names_here};
+use crate::asked::is_host;
+use crate::authority::names_here;
+use crate::target::authority;
 use httparse::spans::HeaderSpan;
 
 /// How many of these fields are Host.
@@ -40,13 +42,32 @@ fn are_here(octets: &[u8], fields: &[HeaderSpan], name: &[u8]) -> bool
     !is_other && are_here(octets, rest, name)
 }
 
-/// Whether a request of HTTP/1.0 or 1.1 with these fields is for the server of this name: it has one field Host, which names that, or in
-/// HTTP/1.0 perhaps none (RFC 9112, section 3.2).
-pub(crate) fn is_named(octets: &[u8], fields: &[HeaderSpan], minor: u8, name: &[u8]) -> bool
+/// Whether the server of this name is named: by a target in absolute form, and else by each field Host.
+#[tactic(auto, unfolding(crate::specs::Asked::IsServerNamed))]
+fn is_server_named(octets: &[u8], fields: &[HeaderSpan], target: &[u8], name: &[u8]) -> bool
     requires { All (IsHeaderWithin (length octets.now)) fields.now }
     ensures { IsTrue result
-        ↔ IsNamed name.now minor (map (header_bytes octets.now) fields.now) }
+        ↔ IsServerNamed name.now target.now (map (header_bytes octets.now) fields.now) }
+{
+    match authority(target) {
+        Some(authority) => names_here(authority, name),
+        None => are_here(octets, fields, name),
+    }
+}
+
+/// Whether a request of HTTP/1.0 or 1.1 with this target and these fields is for the server of this name: it has one field Host, or in
+/// HTTP/1.0 perhaps none, and names that (RFC 9112, sections 3.2 and 3.2.2).
+pub(crate) fn is_named(
+    octets: &[u8],
+    fields: &[HeaderSpan],
+    minor: u8,
+    target: &[u8],
+    name: &[u8],
+) -> bool
+    requires { All (IsHeaderWithin (length octets.now)) fields.now }
+    ensures { IsTrue result
+        ↔ IsNamed name.now minor target.now (map (header_bytes octets.now) fields.now) }
 {
     let hosts = host_count(octets, fields);
-    (hosts == 1 || hosts == 0 && minor == 0) && are_here(octets, fields, name)
+    (hosts == 1 || hosts == 0 && minor == 0) && is_server_named(octets, fields, target, name)
 }

@@ -2,8 +2,9 @@
 
 ghost use Rattle.status_request.specs.Request.{IsReading};
 
-use crate::asked::{Method, Resource, method_named, path, resource_at};
+use crate::asked::{Method, Resource, method_named, resource_at};
 use crate::hosts::is_named;
+use crate::target::path;
 use httparse::spans::{EMPTY_HEADER_SPAN, parse_request};
 use httparse::{Error, Status};
 
@@ -18,8 +19,8 @@ pub const MOST_FIELDS: usize = 64;
 pub enum RequestRefusal {
     /// 400: no head of a request can come of the octets.
     BadRequest,
-    /// 400: it isn't said to be for this server: a field Host names another, as of a page that was loaded from elsewhere, or there are two
-    /// of them, or in HTTP/1.1 none.
+    /// 400: it isn't said to be for this server: its target in absolute form or a field Host names another, as of a page that was loaded
+    /// from elsewhere, or there are two of these fields, or in HTTP/1.1 none.
     OtherHost,
     /// 404: there is nothing at its path.
     NotFound,
@@ -48,13 +49,14 @@ pub fn judge(octets: &[u8], name: &[u8]) -> RequestReading
     let mut fields = [EMPTY_HEADER_SPAN; MOST_FIELDS];
     match parse_request(octets, &mut fields) {
         Ok(Status::Complete(head)) => {
-            if !is_named(octets, &fields[..head.headers], head.version, name) {
+            let target = head.path.of(octets);
+            if !is_named(octets, &fields[..head.headers], head.version, target, name) {
                 return RequestReading::Refused(RequestRefusal::OtherHost);
             }
             let Some(method) = method_named(head.method.of(octets)) else {
                 return RequestReading::Refused(RequestRefusal::MethodNotAllowed);
             };
-            let Some(resource) = resource_at(path(head.path.of(octets))) else {
+            let Some(resource) = resource_at(path(target)) else {
                 return RequestReading::Refused(RequestRefusal::NotFound);
             };
             RequestReading::Wanted { method, resource }

@@ -2,9 +2,11 @@
 #![tactic(auto)]
 
 mod asked;
+mod authority;
 mod hosts;
 mod incoming;
 mod judged;
+mod target;
 
 pub use asked::{Method, Resource};
 pub use incoming::Incoming;

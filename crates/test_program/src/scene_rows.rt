@@ -162,7 +162,7 @@ answered silent \x00
 ended silent
 job 1 hello world
 ----
-logged : 1 UnknownQueue\n
+logged : 1 UnknownQueue: queue nothing\n
 logged : the connection ended in the middle\n
 logged : reading failed, or the peer was silent\n
 log 3

@@ -84,7 +84,7 @@ const TOLD: [(&str, &[u8], &[u8]); 69] = [
         b"ok pages 2600 page_size 8 queues 3 printers 3\n\
           queue fifty jobs 50\nqueue fifty held 38\n\
           queue few jobs 49, too few: a larger account or larger pages make room\nqueue few held 37\n\
-          queue none jobs 0, too few: a larger account or larger pages make room\nqueue none held 0\nstatus 0\n",
+          queue none jobs 0, too few: a larger account or larger pages make room\nqueue none held 0\nstatus 2\n",
     ),
     (
         "check,FILE,--printer,2=socket://10.0.0.9:65535,--printer,1=folder:jobs",

@@ -1,3 +1,4 @@
 mod ControlLemmas
 mod DataFileLemmas
 mod OrderLemmas
+mod TerminalLemmas

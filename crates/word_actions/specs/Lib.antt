@@ -13,4 +13,5 @@ pub mod Sending
 pub mod Sizes
 pub mod Status
 pub mod Summary
+pub mod Terminal
 pub mod Unread

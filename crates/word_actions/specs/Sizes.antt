@@ -1,5 +1,5 @@
 -- How many jobs fit into the account, and the lines that say it.
-use Rattle.std.specs.Prelude.{◌++◌, ◌∷◌, ◌-◌, ◌/◌, ℕ, List, [], codes, if◌then◌else◌, nat_lt, zero, suc}
+use Rattle.std.specs.Prelude.{◌++◌, ◌∷◌, ◌-◌, ◌/◌, ◌==◌, ◌||◌, ℕ, Bool, List, [], codes, false, if◌then◌else◌, nat_lt, zero, suc}
 use Rattle.std.specs.Fmt.{decimal}
 use Rattle.config_values.specs.Config as C
 
@@ -29,3 +29,8 @@ held_line c queue = codes "queue " ++ (C.queue_at c queue).name ++ codes " held 
 abbrev pub size_lines : C.Config → ℕ → List ℕ
 size_lines c zero = []
 size_lines c (suc n) = (size_lines c n ++ size_line c (suc n)) ++ held_line c (suc n)
+
+-- one of the first so many queues takes no job: the account has no room for one as large as it allows
+abbrev pub takes_none : C.Config → ℕ → Bool
+takes_none c zero = false
+takes_none c (suc n) = takes_none c n || (jobs_that_fit c (suc n) == 0)

@@ -11,18 +11,23 @@ ghost use Rattle.word_actions.specs.declared.controlling.ControlFault.TheVariant
 ghost use Rattle.program_edge.specs.Told.{IsTold};
 
 use control_lines::{AnswerEnd, ControlCommand, read_answer};
-use log::Log;
+use control_socket::{Waiting, connect_unix};
+use log::{Log, info};
 use lpd_commands::{OctetRead, OctetWrite, write_all};
 use lpd_script::read_all;
 use program_edge::{FaultName, StreamReader, StreamWriter, tell, tell_cause};
 use program_words::ControlRequest;
 use std::alloc::{AllocError, Global};
+use std::fmt;
+use std::io::{self, Error, ErrorKind};
 use std::net::Net;
 use std::os::unix::net::UnixStream;
 use std::time::Duration;
-use std::{fmt, io};
 
-/// For how many seconds a server may say nothing before it counts as one that doesn't answer.
+/// The part of the program that tells the log that a server didn't answer in time, by which a log can choose its lines.
+pub(crate) const PART: &str = "lpd_words::controlling";
+
+/// For how many seconds a server may take no connection, take nothing of a line or say nothing before it counts as one that doesn't answer.
 const PATIENCE_SECONDS: u64 = 10;
 
 /// Why a command wasn't carried out.
@@ -168,14 +173,26 @@ fn patience(command: &ControlCommand) -> Option<u64>
     }
 }
 
-/// Two ends of a connection to the socket of a request.
+/// Two ends of a connection to the socket of a request, which waits for its place and for the writing of the line for `PATIENCE_SECONDS`
+/// each, and for the answer as `patience` says.
 fn both_ends<N: Net>(host: &N, request: &ControlRequest) -> io::Result<(UnixStream, UnixStream)> {
-    let stream = UnixStream::connect(host, request.path)?;
+    let most = Waiting::For(Duration::from_secs(PATIENCE_SECONDS));
+    let stream = connect_unix(host, request.path, most)?;
     if let Some(seconds) = patience(&request.command) {
         stream.set_read_timeout(Some(Duration::from_secs(seconds)))?;
     }
     let again = stream.try_clone()?;
     Ok((stream, again))
+}
+
+/// Tells the log why nobody answers at a path: for this cause, or since a limit of time is over.
+fn tell_why<L: Log>(log: &L, path: &str, cause: Option<Error>) {
+    match cause {
+        Some(error) if error.kind() == ErrorKind::WouldBlock => {
+            info!(log; target: PART, "{path}: no answer for {PATIENCE_SECONDS} s");
+        }
+        cause => tell_cause(log, &path, cause),
+    }
 }
 
 /// Sends a command to the socket of its request, as `ask_server` does. The log is told why nobody answers.
@@ -191,13 +208,13 @@ fn ask_at<'a, N: AllocGlobal + Net, L: Log, O: OctetWrite>(
     let (reader, writer) = match both_ends(host, request) {
         Ok(ends) => ends,
         Err(error) => {
-            tell_cause(log, &request.path, Some(error));
+            tell_why(log, request.path, Some(error));
             return Err(ControlFault::Network(request.path));
         }
     };
     let (mut reader, mut writer) = (StreamReader::new(reader), StreamWriter::new(writer));
     let end = ask_server(host.alloc(), &mut reader, &mut writer, request, output);
-    tell_cause(log, &request.path, reader.cause().or(writer.cause()));
+    tell_why(log, request.path, reader.cause().or(writer.cause()));
     end
 }
 
@@ -222,8 +239,8 @@ fn ended<E: OctetWrite>(alloc: Global, end: Result<(), ControlFault>, faults: &m
 /// network the log is told at INFO which path it is about, and why.
 ///
 /// Answers the exit status: 0 where the command was carried out, 5 where the server refuses it or doesn't know it, and 4 for
-/// memory, where the output can't be written, and where no server answers to the end: one that says nothing for 10 seconds
-/// doesn't, but a stop is waited for.
+/// memory, where the output can't be written, and where no server answers to the end: one that takes no connection, takes nothing
+/// of the line or says nothing for 10 seconds doesn't, but a stop that it has is waited for.
 pub fn control<N: AllocGlobal + Net, L: Log, O: OctetWrite, E: OctetWrite>(
     host: &N,
     log: &L,

@@ -4,7 +4,7 @@ ghost use Rattle.std.specs.Prelude.{◌≡◌};
 ghost use Rattle.word_actions.specs.Status.{status_of};
 ghost use Rattle.word_actions.specs.declared.fault.ActionFault.TheVariants.{Memory, Run};
 
-use crate::{folders, readers, reasons, sockets};
+use crate::{controlling, folders, readers, reasons, sockets};
 use lpr_client::SendFault;
 use printer_devices::SHARED_FOLDERS;
 use program_edge::FaultName;
@@ -16,6 +16,7 @@ use thiserror::Error;
 pub const CAUSES: &[&str] = &[
     program_edge::CAUSES,
     SHARED_FOLDERS,
+    controlling::PART,
     folders::PART,
     readers::PART,
     reasons::PART,
@@ -49,6 +50,9 @@ pub enum ActionFault {
     /// A control socket can't be made at this path.
     #[error("{name} {0}", name = FaultName::Network)]
     Socket(String),
+    /// A queue of the configuration takes no job, of which its sizes were told: no line of its own tells it.
+    #[error("")]
+    NoJobFits,
 }
 
 impl From<AllocError> for ActionFault {
@@ -76,6 +80,7 @@ impl ActionFault {
         match self {
             ActionFault::Printer(_) => 1,
             ActionFault::Places(_) => 2,
+            ActionFault::NoJobFits => 2,
             ActionFault::Run(fault) => fault.status(),
             ActionFault::Memory
             | ActionFault::Network

@@ -1,14 +1,14 @@
 //! What is done with files: a configuration is checked, and what spool it is for is said; a script is run.
 
-ghost use Rattle.std.specs.Prelude.{◌≡◌, ◌≢◌, OnOk, IfOk, IfErr, Err, Some, List, ℕ, length};
+ghost use Rattle.std.specs.Prelude.{◌≡◌, ◌≢◌, ◌&&◌, OnOk, IfOk, IfErr, Err, Ok, Some, List, ℕ, if◌then◌else◌, length};
 ghost use Rattle.std.specs.Prelude.{string_bytes};
 ghost use Rattle.lpd_commands.specs.Ends.{Writes};
 ghost use Rattle.lpd_script.specs.declared.fault.Fault.TheVariants.{ReadFile, WriteFile};
-ghost use Rattle.word_actions.specs.declared.fault.ActionFault.TheVariants.{Run};
+ghost use Rattle.word_actions.specs.declared.fault.ActionFault.TheVariants.{NoJobFits, Run};
 ghost use Rattle.word_actions.specs.Causes.{IsRunFault};
 ghost use Rattle.word_actions.specs.Order.{Checked, IsConfigFault, IsSpoolFault, IsUnchecked, ReadsConfig, ReadsSpool};
 ghost use Rattle.word_actions.specs.Order.{StopsAt, write_faults};
-ghost use Rattle.word_actions.specs.Sizes.{few_text, held_line, size_line, size_lines};
+ghost use Rattle.word_actions.specs.Sizes.{few_text, held_line, jobs_that_fit, size_line, size_lines, takes_none};
 ghost use Rattle.word_actions.specs.Summary.{check_text, out_of, spool_text, summary_line};
 ghost use Rattle.spool_config.specs.Answers.{fault_of};
 ghost use Rattle.spool_config.specs.declared.settings.ConfigFault.{ConfigFault};
@@ -90,12 +90,41 @@ fn few_text(jobs: u64) -> &'static str
     }
 }
 
+/// How many jobs of a queue fit into the account between two moments without held jobs, each as large as the queue allows. The last entry
+/// is that of the close.
+fn jobs_that_fit(config: &Config, queue: u32) -> u64
+    ensures { result ≡ jobs_that_fit config.now queue }
+{
+    config.account().saturating_sub(1) / config.reserve_of(queue)
+}
+
+/// Whether a queue of a configuration takes no job: the account has no room for one as large as the queue allows.
+fn takes_none(config: &Config) -> bool
+    ensures { result ≡ takes_none config.now (length config.now.queues) }
+{
+    let mut none = false;
+    for place in 0..config.queues().len() {
+        none = none || jobs_that_fit(config, place as u32 + 1) == 0;
+    }
+    none
+}
+
+/// Looks, where sizes are asked for, whether each queue takes a job. NoJobFits where one doesn't.
+pub(crate) fn check_sizes(config: &Config, sizes: bool) -> Result<(), ActionFault>
+    ensures { result ≡ (if sizes && takes_none config.now (length config.now.queues) then Err NoJobFits else Ok tt) }
+{
+    if sizes && takes_none(config) {
+        return Err(ActionFault::NoJobFits);
+    }
+    Ok(())
+}
+
 /// The line of a queue: how many jobs of it fit into the account between two moments without held
-/// jobs, each as large as the queue allows. The last entry is that of the close.
+/// jobs, each as large as the queue allows.
 fn size_line(alloc: Global, config: &Config, queue: u32) -> Result<Vec<u8>, AllocError>
     ensures { IfOk result (λ line. line.items ≡ size_line config.now queue) }
 {
-    let jobs = config.account().saturating_sub(1) / config.reserve_of(queue);
+    let jobs = jobs_that_fit(config, queue);
     let few = few_text(jobs);
     let mut line = Vec::from_slice(alloc, b"queue ")?;
     line.extend_from_slice(config.name_of(queue))?;

@@ -10,8 +10,10 @@ mod places;
 mod progress;
 mod readers;
 mod reasons;
+mod remarks;
 mod running;
 mod sockets;
+mod terminal;
 
 pub use asking::ask_queue;
 pub use controlling::{ControlFault, ask_server, control};
@@ -20,5 +22,7 @@ pub use files::{ReadSpool, check, read_config, read_spool, replay};
 pub use places::{PLACE_LINES, printers_of, tell_places};
 pub use program_words::ServeRequest;
 pub use progress::PROGRESS;
+pub use remarks::remark_on;
 pub use running::{RunOutcome, System, data_file, run, send, tell_unread};
 pub use spool_config::PlacesFault;
+pub use terminal::TerminalWriter;

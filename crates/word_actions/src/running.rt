@@ -26,12 +26,13 @@ ghost use Rattle.lpr_client.specs.declared.file.DataFile.{DataFile};
 
 use crate::asking::{ask_question, connect, socket_of};
 use crate::fault::ActionFault;
-use crate::files::{ReadSpool, check, print, replay};
+use crate::files::{ReadSpool, check, check_sizes, print, replay};
 use crate::folders::{check_account, check_folder, check_out};
 use crate::places::printers_of;
 use crate::progress::ProgressWriter;
 use crate::readers::OpenReaders;
 use crate::reasons::tell_reason;
+use crate::remarks::remark_on;
 use crate::sockets::check_socket;
 use log::{Log, info};
 use lpd_commands::{OctetRead, OctetWrite, write_all};
@@ -219,7 +220,7 @@ fn send_files<R: Files + Net + Log, W: OctetWrite>(
     print(output, line.as_slice())
 }
 
-/// Checks a configuration at its path, and answers it. The log is told why it can't be read.
+/// Checks a configuration at its path, and answers it. The log is told why it can't be read, and what is remarked of it.
 fn check_file<R: Files + Log + Alloc<A = Global>, W: OctetWrite>(
     rt: &R,
     checking: &Checking,
@@ -231,6 +232,7 @@ fn check_file<R: Files + Log + Alloc<A = Global>, W: OctetWrite>(
     let mut file = StreamReader::open(rt, checking.config);
     let end = check(rt.alloc(), &mut file, checking, output);
     tell_cause(rt, &checking.config, file.cause());
+    remark_on(rt, rt.alloc(), checking.config, end.as_ref().err());
     end
 }
 
@@ -334,7 +336,8 @@ fn run_asked<R: Files<File = File> + Net + Log + Alloc<A = Global>, N: Net, W: O
         Ask::Audit(_) | Ask::Usage(_) => Ok(()),
         Ask::Check(checking) => {
             let spool = check_file(rt, checking, output)?;
-            check_places(rt, host, checking, &spool, output)
+            check_places(rt, host, checking, &spool, output)?;
+            check_sizes(&spool.config, checking.sizes)
         }
         Ask::Replay { config, script } => replay_files(alloc, rt, config, script, output),
         Ask::Send { sending, envelope } => send_files(alloc, rt, sending, envelope, output),
@@ -342,7 +345,7 @@ fn run_asked<R: Files<File = File> + Net + Log + Alloc<A = Global>, N: Net, W: O
     }
 }
 
-/// The exit status of an end. A fault is told.
+/// The exit status of an end. A fault is told, but for one of sizes, which were told before.
 fn ended<E: OctetWrite>(alloc: Global, end: Result<(), ActionFault>, faults: &mut E) -> u8
     ensures status { result ≡ end_status end }
     ensures quiet { OnOk end (IsUntouched (E.written faults.old) (E.faults faults.old)
@@ -351,8 +354,10 @@ fn ended<E: OctetWrite>(alloc: Global, end: Result<(), ActionFault>, faults: &mu
     let Err(fault) = end else {
         return 0;
     };
-    // There is nowhere else to tell of a fault here: the exit status says that there was one.
-    let _ = tell(alloc, &fault, faults);
+    // There is nowhere else to tell of a fault here: the exit status says that there was one. Of sizes it is all that says it.
+    if !matches!(fault, ActionFault::NoJobFits) {
+        let _ = tell(alloc, &fault, faults);
+    }
     fault.status()
 }
 

@@ -8,6 +8,7 @@ ghost use Rattle.word_actions.specs.Status.{status_of};
 
 use crate::fault::ActionFault;
 use crate::files::print;
+use control_socket::{Waiting, connect_unix};
 use log::{Log, info};
 use lpd_commands::OctetWrite;
 use program_edge::tell_cause;
@@ -17,7 +18,6 @@ use std::fs::Files;
 use std::io::{self, ErrorKind};
 use std::net::Net;
 use std::os::unix::fs::FileTypeExt;
-use std::os::unix::net::UnixStream;
 use std::path::Path;
 
 /// The part of the program that tells the log why, by which a log can choose its lines.
@@ -29,6 +29,8 @@ enum Found {
     Free,
     /// A socket at which a server answers.
     Answered,
+    /// A socket at which a process listens, and all places in its backlog are taken.
+    Full,
     /// The system says that no socket can be made there.
     Failed(io::Error),
 }
@@ -41,13 +43,15 @@ fn folder_of(path: &str) -> &str {
     }
 }
 
-/// What stands at this path, of which nothing is made or changed: a server that answers there sees a connection that ends.
+/// What stands at this path, of which nothing is made or changed, and for which nothing is waited: a server that answers there sees a
+/// connection that ends.
 fn look<R: Files, N: Net>(rt: &R, host: &N, path: &str) -> Found {
-    let error = match UnixStream::connect(host, path) {
+    let error = match connect_unix(host, path, Waiting::Never) {
         Ok(_) => return Found::Answered,
         Err(error) => error,
     };
     match error.kind() {
+        ErrorKind::WouldBlock => Found::Full,
         ErrorKind::NotFound => match rt.open_dir(folder_of(path)) {
             Ok(_) => Found::Free,
             Err(error) => Found::Failed(error),
@@ -84,6 +88,9 @@ pub(crate) fn check_socket<R: Files + Log, N: Net, W: OctetWrite>(
     match look(rt, host, path) {
         Found::Free => return print(output, socket_line(alloc, path)?.as_bytes()),
         Found::Answered => info!(rt; target: PART, "{path}: a server answers at the path"),
+        Found::Full => {
+            info!(rt; target: PART, "{path}: a process listens at the path and takes no more connections");
+        }
         Found::Failed(error) => tell_cause(rt, &path, Some(error)),
     }
     Err(ActionFault::Socket(String::from_str(alloc, path)?))
