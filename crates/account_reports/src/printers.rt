@@ -7,7 +7,7 @@ use program_edge::JOB_FILE;
 use std::alloc::Global;
 use std::fs::{File, Files, OpenOptions};
 use std::io::{ErrorKind, Read, Seek, SeekFrom};
-use std::{io, str};
+use std::{fs, io, str};
 
 /// How often a read that was interrupted is tried.
 const TRIES: u32 = 1_000;
@@ -21,8 +21,11 @@ pub(crate) struct PrintedFile {
 }
 
 impl PrintedFile {
-    /// The file at a path. An error where it can't be opened.
+    /// The file at a path. An error where it can't be opened, or is none: a pipe in its place would have its opener wait.
     pub(crate) fn open<R: Files<File = File>>(rt: &R, path: &str) -> io::Result<PrintedFile> {
+        if !fs::metadata(rt, path)?.is_file() {
+            return Err(io::Error::new(ErrorKind::Other, "it is no file"));
+        }
         let file = OpenOptions::new().read(true).open(rt, path)?;
         Ok(PrintedFile { file, at: Some(0) })
     }

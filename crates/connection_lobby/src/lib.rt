@@ -15,7 +15,7 @@ mod waiting_room;
 pub use desk::{Desk, Doors, Serves};
 pub use doorway::Doorway;
 pub use first_line::{Purpose, is_whole, purpose_of};
-pub use guests::{Guest, GuestStage, who_leaves};
+pub use guests::{GuestStage, Guests};
 pub use limits::{MOST_GUESTS, places};
 pub use lobby::{Listening, Lobby};
 pub use peers::{

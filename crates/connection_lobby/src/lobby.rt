@@ -314,7 +314,7 @@ impl Lobby {
         }
         self.accepted = self.accepted.saturating_add(1);
         self.make_place(rt);
-        let Some(at) = self.room.settle(self.accepted, caller, awaited) else {
+        let Some(at) = self.room.settle(self.accepted, caller, awaited)? else {
             return Ok(());
         };
         if self.look(rt, at, false)? {

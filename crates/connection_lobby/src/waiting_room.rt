@@ -6,7 +6,7 @@ ghost use Rattle.connection_lobby.specs.Hosts.{host_number};
 ghost use Rattle.connection_lobby.specs.declared.first_line.Purpose.TheVariants.{Job};
 
 use crate::first_line::{FIRST_LINE_OCTETS, Purpose, is_whole, purpose_of};
-use crate::guests::{Guest, GuestStage, who_leaves};
+use crate::guests::{GuestStage, Guests};
 use crate::headers::{HEADER_SECONDS, HeaderFault, HeaderWord, MOST_HEADER, read_word};
 use crate::peers::{take_octets, unread_octets};
 use std::alloc::{AllocError, Global};
@@ -86,7 +86,10 @@ pub(crate) struct Ready {
 /// The places of connections that wait.
 #[derive(Drop)]
 pub(crate) struct WaitingRoom {
-    guests: Vec<Option<Guest>>,
+    // Those whose first line isn't whole.
+    guests: Guests,
+    // The number of the guest at each place, by order of arrival.
+    numbers: Vec<u64>,
     pub(crate) callers: Vec<Option<Caller>>,
     // Since when the header of a proxy is waited for, where it is, and for how many it is.
     awaited: Vec<Option<Instant>>,
@@ -117,7 +120,8 @@ impl WaitingRoom {
         ensures { (result.callers.items ≡ []) × (result.free.items ≡ []) }
     {
         WaitingRoom {
-            guests: Vec::new(alloc),
+            guests: Guests::new(alloc),
+            numbers: Vec::new(alloc),
             callers: Vec::new(alloc),
             awaited: Vec::new(alloc),
             headers: 0,
@@ -131,7 +135,7 @@ impl WaitingRoom {
     pub(crate) fn grow(&mut self, places: u64) -> Result<(), AllocError> {
         for _ in 0..places {
             self.free.push(self.callers.len())?;
-            self.guests.push(None)?;
+            self.numbers.push(0)?;
             self.callers.push(None)?;
             self.awaited.push(None)?;
         }
@@ -140,13 +144,13 @@ impl WaitingRoom {
 
     /// Whether another connection may come in.
     pub(crate) fn has_room(&self) -> bool {
-        !self.free.is_empty() || who_leaves(self.guests.as_slice()).is_some()
+        !self.free.is_empty() || self.guests.who_leaves().is_some()
     }
 
     /// The place of the guest that leaves for another one; None where a place is free, or nobody leaves.
     pub(crate) fn who_makes_place(&self) -> Option<usize> {
         if self.free.is_empty() {
-            who_leaves(self.guests.as_slice())
+            self.guests.who_leaves()
         } else {
             None
         }
@@ -160,7 +164,7 @@ impl WaitingRoom {
         if !self.jobs.is_empty() || !self.others.is_empty() {
             return None;
         }
-        let at = who_leaves(self.guests.as_slice())?;
+        let at = self.guests.who_leaves()?;
         if self.awaits_header(at) {
             return None;
         }
@@ -174,29 +178,27 @@ impl WaitingRoom {
         })
     }
 
-    /// Gives a connection of this number a free place, which is answered. Where it begins with a proxy's header, that is waited for
-    /// since `awaited`.
+    /// Gives a connection of this number a free place, which is answered, if there is one. Where it begins with a proxy's header, that is
+    /// waited for since `awaited`. AllocError where memory is refused: then the place stays free.
     pub(crate) fn settle(
         &mut self,
         number: u64,
         caller: Caller,
         awaited: Option<Instant>,
-    ) -> Option<usize> {
-        let at = self.free.pop()?;
+    ) -> Result<Option<usize>, AllocError> {
+        let Some(at) = self.free.last().copied() else {
+            return Ok(None);
+        };
+        self.guests.enter(number, at)?;
+        self.free.pop();
         self.await_header(at, awaited);
         if let Some(place) = self.callers.get_mut(at) {
             *place = Some(caller);
         }
-        let stage = GuestStage::Silent;
-        self.mark(at, Some(Guest { number, stage }));
-        Some(at)
-    }
-
-    /// Says what is known of the guest at a place.
-    fn mark(&mut self, at: usize, guest: Option<Guest>) {
-        if let Some(place) = self.guests.get_mut(at) {
-            *place = guest;
+        if let Some(place) = self.numbers.get_mut(at) {
+            *place = number;
         }
+        Ok(Some(at))
     }
 
     /// The peer of the guest at a place.
@@ -270,7 +272,9 @@ impl WaitingRoom {
     pub(crate) fn release(&mut self, at: usize) -> Option<Caller> {
         let caller = self.callers.get_mut(at)?.take()?;
         self.await_header(at, None);
-        self.mark(at, None);
+        if let Some(number) = self.numbers.get(at) {
+            self.guests.leave(*number);
+        }
         // There is room, since a place was taken from it.
         let _ = self.free.push(at);
         Some(caller)
@@ -292,21 +296,24 @@ impl WaitingRoom {
 
     /// Looks at what a guest has sent, and leaves it unread. Whether it is ready.
     pub(crate) fn look(&mut self, at: usize, is_ended: bool) -> Result<bool, AllocError> {
-        let (Some(Some(guest)), Some(Some(caller))) = (self.guests.get(at), self.callers.get(at))
-        else {
+        let (Some(number), Some(Some(caller))) = (self.numbers.get(at), self.callers.get(at)) else {
             return Ok(true);
         };
-        let Guest { number, stage } = *guest;
-        if matches!(stage, GuestStage::Ready) {
+        let number = *number;
+        if matches!(self.guests.stage(number), GuestStage::Ready) {
             return Ok(true);
         }
         let (stage, purpose) = stage_of(&caller.stream, is_ended);
         let host = caller.host();
-        self.mark(at, Some(Guest { number, stage }));
-        if !matches!(stage, GuestStage::Ready) {
-            return Ok(false);
+        match stage {
+            GuestStage::Silent => {}
+            GuestStage::Begun => self.guests.begin(number)?,
+            GuestStage::Ready => {
+                self.line_up(Ready { at, purpose, host })?;
+                self.guests.leave(number);
+                return Ok(true);
+            }
         }
-        self.line_up(Ready { at, purpose, host })?;
-        Ok(true)
+        Ok(false)
     }
 }

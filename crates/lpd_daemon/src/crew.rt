@@ -10,15 +10,17 @@ ghost use Rattle.std.specs.Prelude.{◌≡◌};
 ghost use Rattle.std.specs.Thread.{IsSend};
 ghost use Rattle.server_house.specs.Lines.{TellsRotations};
 
-use crate::printing::Printing;
 use log::Log;
 use lpd_commands::OctetWrite;
 use printer_devices::OpenedPlace;
-use server_care::{Board, Care, Counter};
-use server_clients::{Answering, Feeding, Gate, Porter, announce_all, watch};
+use server_board::{Board, Surveyor};
+use server_care::{Care, Counter};
+use server_clients::{Answering, Gate, Porter, announce_all};
+use server_feeding::{Feeding, watch};
 use server_house::{
     Host, House, HouseLedger, HouseSeat, PrintingSeat, Roles, Seats, ServerFault, serves_at,
 };
+use server_printers::Printing;
 use std::alloc::Global;
 use std::fs::{File, Files};
 use std::net::{Net, TcpListener, TcpStream};
@@ -97,7 +99,7 @@ fn close_spool<R: Files<File = File> + Clock + Log + Wait, E: HouseLedger>(
     hall.ending.close();
     hall.oversight.wake_steward();
     hall.close_shelf();
-    care.end_showing();
+    Surveyor { spool, hall }.end_showing();
 }
 
 impl<E: HouseLedger + Send + Sync> Crew<E> {
@@ -200,7 +202,7 @@ impl<E: HouseLedger + Send + Sync> Crew<E> {
         self.steward = thread.ok();
         self.is_whole &= self.steward.is_some();
         if let Some(board) = board {
-            let thread = scope.spawn(move || Care { spool, hall }.show_all(board));
+            let thread = scope.spawn(move || Surveyor { spool, hall }.show_all(board));
             self.is_whole &= keep(&mut self.seatless, thread);
         }
     }

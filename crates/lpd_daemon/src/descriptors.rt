@@ -1,6 +1,12 @@
-//! How many descriptors are kept for others than connections that wait.
+//! How many descriptors are kept for others than connections that wait, and whether as many are there as a server takes at least.
 
-ghost use Rattle.std.specs.Prelude.{◌≡◌, ◌+◌, ◌*◌, false, if◌then◌else◌, true};
+ghost use Rattle.std.specs.Prelude.{◌≡◌, ◌≤◌, ◌++◌, Some, codes};
+ghost use Rattle.std.specs.Fmt.{decimal};
+ghost use Rattle.lpd_daemon.specs.Descriptors.{kept, least_free};
+
+use std::alloc::Global;
+use std::fmt;
+use std::fs::{File, Files};
 
 /// How many descriptors are kept for more than connections that wait.
 const KEPT_DESCRIPTORS: u64 = 64;
@@ -14,35 +20,94 @@ const BOARDS_DESCRIPTORS: u64 = 208;
 /// How many more are kept for the folder in which jobs are, and for what is read of it.
 const FOLDERS_DESCRIPTORS: u64 = 8;
 
-/// How many descriptors are kept for others than connections that wait: for each printer's file, for
-/// each session two of its connection, and some for what the program has beside; where a steward looks after
-/// the server, for each printer's pipe and for what comes to the steward too.
-pub(crate) fn kept_descriptors(printers: u32, sessions: u32, is_watched: bool) -> u64
-    ensures alone { is_watched ≡ false → result ≡ 64 + printers + 2 * sessions }
-    ensures watched { is_watched ≡ true → result ≡ 64 + printers + 2 * sessions + (printers + 80) }
-{
-    let kept = KEPT_DESCRIPTORS + u64::from(printers) + 2 * u64::from(sessions);
-    if is_watched {
-        kept + (u64::from(printers) + STEWARDS_DESCRIPTORS)
-    } else {
-        kept
+/// The system's fault where a process has all descriptors that it may have (EMFILE).
+const NO_MORE: i32 = 24;
+
+/// What of a server takes descriptors beside connections that wait.
+#[derive(Clone, Copy)]
+pub(crate) struct Takers {
+    pub(crate) printers: u32,
+    pub(crate) sessions: u32,
+    /// It has a folder of jobs.
+    pub(crate) are_kept: bool,
+    /// It has a folder of its account's segments.
+    pub(crate) is_archived: bool,
+    /// It has a control socket, or looks at signals.
+    pub(crate) is_watched: bool,
+    /// Its status is shown.
+    pub(crate) is_shown: bool,
+}
+
+impl Takers {
+    /// How many descriptors are kept for others than connections that wait: for each printer's file, for each session two of its connection,
+    /// and some for what the program has beside; where a steward looks after the server, for each printer's pipe and for what comes to the
+    /// steward too; where jobs are kept, for each session a file, and some for the folder; and some where the status is shown.
+    pub(crate) fn kept(self) -> u64
+        ensures { result ≡ kept self }
+    {
+        let (printers, sessions) = (u64::from(self.printers), u64::from(self.sessions));
+        let steward = if self.is_watched {
+            printers + STEWARDS_DESCRIPTORS
+        } else {
+            0
+        };
+        let folder = if self.are_kept {
+            sessions + FOLDERS_DESCRIPTORS
+        } else {
+            0
+        };
+        let board = if self.is_shown { BOARDS_DESCRIPTORS } else { 0 };
+        KEPT_DESCRIPTORS + printers + 2 * sessions + steward + folder + board
+    }
+
+    /// How many have to be free once all is open, at least: one for each printer, two for a connection that brings a job, two for that job's
+    /// file and its folder, and one each for a segment, a command, and a question for the status.
+    pub(crate) fn least_free(self) -> u64
+        ensures { result ≡ least_free self }
+    {
+        let folder = if self.are_kept { 2 } else { 0 };
+        let archive = u64::from(self.is_archived);
+        let steward = u64::from(self.is_watched);
+        let board = u64::from(self.is_shown);
+        2 + u64::from(self.printers) + folder + archive + steward + board
     }
 }
 
-/// How many more descriptors are kept where jobs are: for each session a file, and some for the folder.
-pub(crate) fn folder_descriptors(sessions: u32, are_kept: bool) -> u64
-    ensures { result ≡ (if are_kept then sessions + 8 else 0) }
+/// How many of N descriptors aren't free: as many files are opened at once, and closed.
+pub(crate) fn lacking<R: Files<File = File>>(rt: &R, alloc: Global, wanted: u64) -> u64
+    ensures { result ≤ wanted }
 {
-    if are_kept {
-        u64::from(sessions) + FOLDERS_DESCRIPTORS
-    } else {
-        0
+    let mut opened = Vec::new(alloc);
+    for count in 0..wanted {
+        match File::open(rt, "/") {
+            Ok(file) => {
+                if opened.push(file).is_err() {
+                    break;
+                }
+            }
+            Err(error) if error.raw_os_error() == Some(NO_MORE) => return wanted - count,
+            Err(_) => break,
+        }
     }
+    0
 }
 
-/// How many more descriptors are kept where the status is shown.
-pub(crate) fn board_descriptors(is_shown: bool) -> u64
-    ensures { result ≡ (if is_shown then 208 else 0) }
-{
-    if is_shown { BOARDS_DESCRIPTORS } else { 0 }
+/// So many descriptors are too few, since it takes so many at least.
+#[derive(Clone, Copy)]
+pub(crate) struct TooFew {
+    pub(crate) limit: u64,
+    pub(crate) least: u64,
+}
+
+impl fmt::Display for TooFew {
+    ghost output = { λ it. Some (decimal it.limit ++ (codes " descriptors are too few: it takes "
+        ++ decimal it.least)) };
+
+    fn fmt<W: fmt::Write>(&self, f: &mut fmt::Formatter<W>) -> fmt::Result {
+        write!(
+            f,
+            "{} descriptors are too few: it takes {}",
+            self.limit, self.least
+        )
+    }
 }

@@ -7,11 +7,8 @@
 
 mod crew;
 mod descriptors;
-mod device_sink;
 mod preparing;
-mod printing;
 mod serving;
-mod sink;
 mod warnings;
 
 pub use control_socket::{OpenFault, SocketFile};

@@ -3,21 +3,23 @@
 ghost use Rattle.std.specs.Prelude.{◌≡◌, IfErr};
 ghost use Rattle.program_edge.specs.Openings.{IsUnopened};
 ghost use Rattle.program_edge.specs.declared.opening.StartPart.{StartPart};
-ghost use Rattle.program_edge.specs.declared.opening.StartPart.TheVariants.{Spool};
+ghost use Rattle.program_edge.specs.declared.opening.StartPart.TheVariants.{Listener, Spool};
 
 use crate::crew::Entrance;
-use crate::descriptors::{board_descriptors, folder_descriptors, kept_descriptors};
+use crate::descriptors::{Takers, TooFew, lacking};
 use config_values::Config;
-use log::{Log, warn};
+use log::{Log, info, warn};
 use mio::Waker;
 use printer_devices::{OpenedPlace, open_places, pipes_of};
-use program_edge::{Settings, StartFault};
-use server_care::{Board, Counter, open_board};
+use program_edge::{CAUSES, Settings, StartFault, StartPart, descriptor_limit};
+use server_board::{Board, open_board};
+use server_care::Counter;
 use server_clients::{Gate, listen};
 use server_folders::{Archive, JobFolder, open_archive};
 use server_house::{AccountRoom, Hall, Host, Oversight, Showing, sessions_of};
 use std::alloc::Global;
 use std::fs::{File, Files};
+use std::net::SocketAddr;
 use std::sync::Wait;
 
 /// The part of the program that logs what happens here, as the log names it.
@@ -87,18 +89,51 @@ impl<'a, R> Stores<'a, R> {
     }
 }
 
-/// A board, and what others know of its thread, where there is one.
-fn shown_at(board: Option<(Board, Waker)>) -> (Option<Board>, Option<Showing>) {
-    match board {
-        Some((board, waker)) => (Some(board), Some(Showing::new(waker))),
-        None => (None, None),
+/// A hall knows of the thread of a board, where there is one.
+fn show_at<R>(hall: &mut Hall<'_, R>, board: Option<(Board, Waker)>) -> Option<Board> {
+    let (board, waker) = board?;
+    hall.showing = Some(Showing::new(waker));
+    Some(board)
+}
+
+/// A hall knows of the room that is kept in the account, where it is.
+fn keep_room<R>(
+    hall: &mut Hall<'_, R>,
+    settings: &Settings<'_>,
+    config: &Config,
+) -> Option<AccountRoom> {
+    if !settings.keep_room {
+        return None;
     }
+    let room = AccountRoom::new(config, sessions_of(settings), settings.limits.room_ms);
+    hall.least = Some(room.least);
+    Some(room)
 }
 
 /// Who looks after a server has these pipes of its printers, and is woken so.
 fn oversee(oversight: &mut Oversight, pipes: Vec<Option<File>>, waker: Option<Waker>) {
     oversight.pipes = pipes;
     oversight.waker = waker;
+}
+
+/// Fails where fewer descriptors are free than these take, now that a server listens at this address: of that the log is told why too.
+fn check_descriptors<R: Files<File = File> + Log>(
+    rt: &R,
+    alloc: Global,
+    address: SocketAddr,
+    takers: Takers,
+) -> Result<(), StartFault>
+    ensures { IfErr result (IsUnopened (λ (part : StartPart). part ≡ Listener)) }
+{
+    let lacking = lacking(rt, alloc, takers.least_free());
+    if lacking == 0 {
+        return Ok(());
+    }
+    let limit = descriptor_limit();
+    let least = limit.saturating_add(lacking);
+    let cause = TooFew { limit, least };
+    info!(rt; target: CAUSES, "{address}: {cause}");
+    Err(StartFault::of(alloc, StartPart::Listener, &address, &cause))
 }
 
 /// Opens all that a server of these settings and this configuration has, and listens: what its threads share beside its spool, and what
@@ -118,21 +153,25 @@ pub(crate) fn prepare<'a, R: Host>(
     let places = stores.places.as_slice();
     let pipes = pipes_of(alloc, if has_steward { places } else { &[] })?;
     let board = open_board(rt, alloc, &settings)?;
-    let kept = kept_descriptors(config.printer_count(), sessions, has_steward)
-        .saturating_add(folder_descriptors(sessions, stores.kept.is_some()))
-        .saturating_add(board_descriptors(board.is_some()));
-    let (lobby, waker, port) = listen(rt, alloc, &mut settings, kept)?;
+    let takers = Takers {
+        printers: config.printer_count(),
+        sessions,
+        are_kept: stores.kept.is_some(),
+        is_archived: stores.archive.is_some(),
+        is_watched: has_steward,
+        is_shown: board.is_some(),
+    };
+    let (lobby, waker, port) = listen(rt, alloc, &mut settings, takers.kept())?;
+    let address = SocketAddr::from((settings.bind, port));
+    check_descriptors(rt, alloc, address, takers)?;
     let (mut hall, doors) = Hall::new(rt, alloc, &settings, config, waker)?;
     let places = stores.put_into(&mut hall);
-    let (board, showing) = shown_at(board);
+    let board = show_at(&mut hall, board);
     if has_steward || board.is_some() {
         hall.oversight.watch(rt);
     }
     oversee(&mut hall.oversight, pipes, counter.take_waker());
-    hall.showing = showing;
-    let room = AccountRoom::new(config, sessions, settings.limits.room_ms);
-    let room = settings.keep_room.then_some(room);
-    hall.least = room.map(|room| room.least);
+    let room = keep_room(&mut hall, &settings, config);
     let gate = Gate {
         lobby,
         doors,

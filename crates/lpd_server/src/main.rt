@@ -33,9 +33,10 @@ use std::sync::{Arc, Wait};
 use std::thread::Threads;
 use std::time::Duration;
 use std::{io, thread};
+use terminal_writer::TerminalWriter;
 use word_actions::{
-    ActionFault, PLACE_LINES, PROGRESS, ReadSpool, RunOutcome, System, TerminalWriter, printers_of,
-    remark_on, tell_places,
+    ActionFault, PLACE_LINES, PROGRESS, ReadSpool, RunOutcome, System, printers_of, remark_on,
+    tell_places,
 };
 
 /// How many lines of the log wait to be written, at most.

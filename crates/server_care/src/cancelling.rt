@@ -48,7 +48,7 @@ impl<R: Files<File = File> + Clock + Log + Wait, E: HouseLedger> Care<'_, '_, R,
         OwnedJob {
             name: JobName {
                 number: JobNumber::Accepted(job.number),
-                client: self.numbers_of(job.number).client,
+                client: self.surveyor().numbers_of(job.number).client,
             },
             user: job.user.as_slice(),
             host: job.host.as_slice(),

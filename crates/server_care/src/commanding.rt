@@ -291,6 +291,12 @@ impl<R: Files<File = File> + Clock + Log + Wait, E: HouseLedger> Care<'_, '_, R,
         }
     }
 
+    /// Tells how the spool, its sessions, its printers and its jobs stand.
+    fn tell_status(&self) -> Result<Vec<u8>, AllocError> {
+        let lines = self.surveyor().status()?;
+        AnswerLines::of_lines(self.hall.alloc, lines).end(AnswerEnd::Done)
+    }
+
     /// Does what a command asks for, but for a stop. The octets of its answer; an error where memory is refused.
     pub fn carry_out(
         &self,

@@ -1,3 +1,2 @@
 -- The words of this crate's contracts.
 pub mod Ends
-pub mod Unloading

@@ -30,9 +30,6 @@ const PART: &str = "lpd_daemon::listening";
 /// The pause after the system didn't tell what happened, in milliseconds.
 const PAUSE_MS: u64 = 100;
 
-/// The longest time for which one wait for the jobs that were kept lasts, in milliseconds. Between two of them the server's end is looked
-/// at.
-
 /// The time between two looks at whether jobs that wait are let in, in milliseconds.
 const LOOK_MS: u64 = 10;
 

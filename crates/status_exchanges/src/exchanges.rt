@@ -1,11 +1,16 @@
 //! The exchanges that one thread has in hand, which goes over all of them in turn.
 
+ghost use Rattle.std.specs.Prelude.{◌≡◌, ◌+◌, ◌≤◌, ℕ, IfOk, length};
+ghost use Rattle.status_exchanges.specs.Exchanges.{without};
+ghost use Rattle.status_exchanges.specs.declared.exchanges.TheConstants.{MOST_EXCHANGES};
+
 use crate::exchange::{Exchange, Turn};
 use crate::stages::{ExchangeStage, ExchangeStanding, count_at, is_due, longest_halted};
 use libc::net::{POLLIN, poll};
 use libc::types::pollfd;
 use status_request::RequestReading;
 use std::alloc::{AllocError, Global};
+use std::marker::Model;
 use std::net::TcpStream;
 use std::os::fd::RawFd;
 
@@ -25,7 +30,7 @@ const NOTHING: pollfd = pollfd {
     revents: 0,
 };
 
-/// The exchanges that one thread has in hand.
+/// The exchanges that one thread has in hand: never more than 128.
 #[derive(Drop)]
 pub struct Exchanges {
     open: Vec<Exchange>,
@@ -33,9 +38,20 @@ pub struct Exchanges {
     standings: Vec<ExchangeStanding>,
 }
 
+impl Model for Exchanges {
+    ghost Value = { ℕ };
+
+    ghost view = { λ exchanges. length exchanges.open.items };
+
+    ghost invariant = { λ exchanges. (length exchanges.standings.items ≡ length exchanges.open.items)
+        × (length exchanges.open.items ≤ MOST_EXCHANGES) };
+}
+
 impl Exchanges {
     /// None yet.
-    pub fn new(alloc: Global) -> Exchanges {
+    pub fn new(alloc: Global) -> Exchanges
+        ensures { result ≡ 0 }
+    {
         Exchanges {
             open: Vec::new(alloc),
             standings: Vec::new(alloc),
@@ -43,12 +59,16 @@ impl Exchanges {
     }
 
     /// How many there are.
-    pub fn count(&self) -> usize {
+    pub fn count(&self) -> usize
+        ensures { result ≡ self.now }
+    {
         self.open.len()
     }
 
     /// Ends the exchange at a place, whose place the last one takes.
-    pub fn end(&mut self, at: usize) {
+    pub fn end(&mut self, at: usize)
+        ensures { self.new ≡ without at self.old }
+    {
         if at < self.open.len() {
             self.open.swap_remove(at);
         }
@@ -60,11 +80,13 @@ impl Exchanges {
     /// Begins one more, with a stream that doesn't block. Where there are too many, the one that has halted longest ends. Its place.
     ///
     /// AllocError where memory for it is refused.
-    pub fn begin(&mut self, stream: TcpStream, now_ms: u64) -> Result<usize, AllocError> {
+    pub fn begin(&mut self, stream: TcpStream, now_ms: u64) -> Result<usize, AllocError>
+        ensures last { IfOk result (λ at. self.new ≡ at + 1) }
+        ensures bounded { self.new ≤ MOST_EXCHANGES }
+    {
         if self.open.len() >= MOST_EXCHANGES {
-            if let Some(at) = longest_halted(self.standings.as_slice(), None) {
-                self.end(at);
-            }
+            let longest = longest_halted(self.standings.as_slice(), None);
+            self.end(longest.unwrap_or(0));
         }
         self.standings.push(ExchangeStanding {
             stage: ExchangeStage::Asking,
@@ -80,7 +102,9 @@ impl Exchanges {
     }
 
     /// The exchange at a place has moved by now, or has come to this stage.
-    fn note(&mut self, at: usize, stage: Option<ExchangeStage>, now_ms: u64) {
+    fn note(&mut self, at: usize, stage: Option<ExchangeStage>, now_ms: u64)
+        ensures { self.new ≡ self.old }
+    {
         if let Some(standing) = self.standings.get_mut(at) {
             standing.moved_ms = now_ms;
             if let Some(stage) = stage {
@@ -92,7 +116,9 @@ impl Exchanges {
 
     /// Takes up the exchange at a place, for the server of this name. What it asks for, once that is known: `More` where its head hasn't
     /// come whole, and no more comes or its time is up. It waits for its answer then.
-    pub fn turn(&mut self, at: usize, name: &[u8], now_ms: u64) -> Option<RequestReading> {
+    pub fn turn(&mut self, at: usize, name: &[u8], now_ms: u64) -> Option<RequestReading>
+        ensures { self.new ≤ self.old }
+    {
         let turn = self.open.get_mut(at)?.turn(name);
         match turn {
             Turn::Asks(reading) => Some(reading),
@@ -113,7 +139,9 @@ impl Exchanges {
     }
 
     /// Ends the exchange at a place if its time is up; but where its head is awaited it is to be answered so: `More`.
-    fn end_late(&mut self, at: usize, now_ms: u64) -> Option<RequestReading> {
+    fn end_late(&mut self, at: usize, now_ms: u64) -> Option<RequestReading>
+        ensures { self.new ≤ self.old }
+    {
         let standing = *self.standings.get(at)?;
         if !is_due(&standing, now_ms) {
             return None;
@@ -126,7 +154,9 @@ impl Exchanges {
     }
 
     /// The answer of the exchange at a place has gone.
-    fn leave(&mut self, at: usize, now_ms: u64) {
+    fn leave(&mut self, at: usize, now_ms: u64)
+        ensures { self.new ≤ self.old }
+    {
         self.note(at, Some(ExchangeStage::Leaving), now_ms);
         if let Some(exchange) = self.open.get_mut(at) {
             if !exchange.leave() {
@@ -137,7 +167,9 @@ impl Exchanges {
 
     /// Answers the exchange at a place, as much as is taken at once. Where too many answers haven't gone then, the one of these that has
     /// halted longest ends.
-    pub fn answer(&mut self, at: usize, response: String, now_ms: u64) {
+    pub fn answer(&mut self, at: usize, response: String, now_ms: u64)
+        ensures { self.new ≤ self.old }
+    {
         if let Some(exchange) = self.open.get_mut(at) {
             exchange.answer(response);
         }

@@ -1,6 +1,7 @@
 //! The octets of a response as they go, each once.
 
-ghost use Rattle.std.specs.Prelude.{◌≡◌, ◌++◌, ◌↔◌, ◌≤◌, ℕ, List, [], IfOk, IsTrue, OnErr, drop, length, string_bytes};
+ghost use Rattle.std.specs.Prelude.{◌≡◌, ◌↔◌, ◌≤◌, ℕ, List, [], IfOk, IsTrue, OnErr, drop, length, string_bytes};
+ghost use Rattle.status_exchanges.specs.Outgoing.{LosesFront};
 
 use std::io;
 use std::io::Write;
@@ -31,7 +32,7 @@ impl Outgoing {
 
     /// Writes once, as much as is taken. How many octets went; after an `Err` none did.
     pub fn write_to<W: Write>(&mut self, stream: &mut W) -> io::Result<usize>
-        ensures goes { IfOk result (λ n. (gone : List ℕ) × (length gone ≡ n) × (self.old ≡ gone ++ self.new)) }
+        ensures goes { IfOk result (LosesFront self.old self.new) }
         ensures err { OnErr result (self.new ≡ self.old) }
     {
         let count = stream.write(&self.response.as_bytes()[self.sent..])?;

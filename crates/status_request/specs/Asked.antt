@@ -17,6 +17,10 @@ is_query_mark b = b == 63
 abbrev pub is_absolute : List ℕ → Bool
 is_absolute target = bytes_eq (map to_ascii_lowercase (take 7 target)) (codes "http://")
 
+-- what stands behind the scheme of a target in absolute form
+abbrev pub IsBehindScheme : List ℕ → List ℕ → Type 0
+IsBehindScheme target rest = (is_absolute target ≡ true) × (rest ≡ drop 7 target)
+
 -- an octet at which an authority ends: a slash or a question mark (RFC 3986, section 3.2; a target has no fragment)
 abbrev pub ends_authority : ℕ → Bool
 ends_authority b = b == 47 || b == 63
@@ -24,6 +28,10 @@ ends_authority b = b == 47 || b == 63
 -- the authority of a target in absolute form: what stands behind its scheme, up to its path or its query
 abbrev pub authority_of : List ℕ → List ℕ
 authority_of target = before_first ends_authority (drop 7 target)
+
+-- the authority that a target in absolute form has
+abbrev pub IsAuthority : List ℕ → List ℕ → Type 0
+IsAuthority target authority = (is_absolute target ≡ true) × (authority ≡ authority_of target)
 
 -- what stands behind that authority
 abbrev pub behind_authority : List ℕ → List ℕ

@@ -1,5 +1,5 @@
 -- Which server a request names: an authority (RFC 3986, section 3.2), as the field Host has one, and a target in absolute form.
-use Rattle.std.specs.Prelude.{◌≡◌, ◌<◌, ◌⊎◌, ◌==◌, ◌&&◌, ℕ, ◌+◌, ◌-◌, ◌*◌, Bool, IsTrue, List, codes, fold, length, map, nat_le, nat_lt}
+use Rattle.std.specs.Prelude.{◌≡◌, ◌<◌, ◌⊎◌, ◌==◌, ◌&&◌, ℕ, ◌+◌, ◌-◌, ◌*◌, Bool, IsTrue, List, Option, Some, None, codes, fold, length, map, nat_le, nat_lt, if◌then◌else◌}
 use Rattle.std.specs.Char.{is_ascii_digit, to_ascii_lowercase}
 use Rattle.std.specs.List.{after_first, before_first, list_all, position_or_len}
 use Rattle.std.specs.Net.Grammar.{IsIpv4Text}
@@ -7,6 +7,15 @@ use Rattle.std.specs.declared.net.ipv4_addr.Ipv4Addr.{Ipv4Addr}
 
 abbrev pub is_colon : ℕ → Bool
 is_colon b = b == 58
+
+-- octets without a colon
+abbrev pub HasNoColon : List ℕ → Type 0
+HasNoColon value = position_or_len is_colon value ≡ length value
+
+-- octets with a colon are cut at the first one: into what stands before it, and what stands behind it
+abbrev pub IsCutAtColon : List ℕ → List ℕ → List ℕ → Type 0
+IsCutAtColon value before after =
+    (position_or_len is_colon value < length value) × (before ≡ before_first is_colon value) × (after ≡ after_first is_colon value)
 
 -- the same but for the case of letters (RFC 3986, section 3.2.2)
 abbrev pub IsSameName : List ℕ → List ℕ → Type 0
@@ -23,6 +32,10 @@ IsHere name host = IsAddress host ⊎ IsSameName host (codes "localhost") ⊎ Is
 -- the number that digits write
 abbrev pub value_of : List ℕ → ℕ
 value_of digits = fold (λ n d. n * 10 + (d - 48)) 0 digits
+
+-- the number that a text writes, where it is of digits alone
+abbrev pub digits_value : List ℕ → Option ℕ
+digits_value text = if list_all is_ascii_digit text then Some (value_of text) else None
 
 -- a port: one to five digits that write a number of at most 65,535 (RFC 3986, section 3.2.3; RFC 9293, section 3.1)
 abbrev pub is_port : List ℕ → Bool

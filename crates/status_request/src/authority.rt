@@ -1,9 +1,16 @@
 //! Which server an authority names, as the field Host has one and a target in absolute form (RFC 3986, section 3.2).
 
-ghost use Rattle.std.specs.Prelude.{◌≡◌, ◌<◌, ◌≤◌, ◌↔◌, IsTrue, MatchOption, None, Some, length, if◌then◌else◌};
-ghost use Rattle.std.specs.Char.{is_ascii_digit};
-ghost use Rattle.std.specs.List.{after_first, before_first, list_all, position_or_len};
-ghost use Rattle.status_request.specs.Authority.{IsAddress, IsHere, IsSameName, NamesHere, is_colon, is_port, value_of};
+ghost use Rattle.std.specs.Prelude.{◌≡◌, ◌≤◌, ◌↔◌, IsTrue, MatchOption, length};
+ghost use Rattle.status_request.specs.Authority.{
+  HasNoColon,
+  IsAddress,
+  IsCutAtColon,
+  IsHere,
+  IsSameName,
+  NamesHere,
+  digits_value,
+  is_port,
+};
 
 use std::net::Ipv4Addr;
 
@@ -12,9 +19,8 @@ const MOST_DIGITS: usize = 5;
 
 /// What stands before the first colon, and behind it. None where there is none.
 fn cut(value: &[u8]) -> Option<(&[u8], &[u8])>
-    ensures { MatchOption result (position_or_len is_colon value.now ≡ length value.now)
-        (λ parts. (position_or_len is_colon value.now < length value.now)
-        × (parts.0.now ≡ before_first is_colon value.now) × (parts.1.now ≡ after_first is_colon value.now)) }
+    ensures { MatchOption result (HasNoColon value.now)
+        (λ parts. IsCutAtColon value.now parts.0.now parts.1.now) }
 {
     for (i, octet) in value.iter().enumerate() {
         if *octet == b':' {
@@ -27,7 +33,7 @@ fn cut(value: &[u8]) -> Option<(&[u8], &[u8])>
 /// The value of digits, or None where there is anything else.
 fn digits(text: &[u8]) -> Option<u32>
     requires { length text.now ≤ MOST_DIGITS }
-    ensures { result ≡ (if list_all is_ascii_digit text.now then Some (value_of text.now) else None) }
+    ensures { result ≡ digits_value text.now }
 {
     let mut value = 0u32;
     for digit in text {

@@ -1,8 +1,15 @@
 //! The target of a request: a path, or in absolute form an authority with a path behind it (RFC 9112, section 3.2).
 
-ghost use Rattle.std.specs.Prelude.{◌≡◌, ◌≤◌, MatchOption, drop, false, length, true};
+ghost use Rattle.std.specs.Prelude.{◌≡◌, ◌≤◌, MatchOption, false, length};
 ghost use Rattle.std.specs.List.{before_first, position_or_len};
-ghost use Rattle.status_request.specs.Asked.{authority_of, ends_authority, is_absolute, is_query_mark, path_of};
+ghost use Rattle.status_request.specs.Asked.{
+  IsAuthority,
+  IsBehindScheme,
+  ends_authority,
+  is_absolute,
+  is_query_mark,
+  path_of,
+};
 
 use crate::authority::is_same;
 
@@ -32,7 +39,7 @@ fn is_absolute(target: &[u8]) -> bool
 /// What stands behind the scheme of a target in absolute form. None where it is in another.
 fn behind_scheme(target: &[u8]) -> Option<&[u8]>
     ensures { MatchOption result (is_absolute target.now ≡ false)
-        (λ rest. (is_absolute target.now ≡ true) × (rest.now ≡ drop 7 target.now)) }
+        (λ rest. IsBehindScheme target.now rest.now) }
 {
     if is_absolute(target) {
         Some(&target[7..])
@@ -57,7 +64,7 @@ fn authority_end(rest: &[u8]) -> usize
 /// The authority of a target in absolute form. None where it is in another.
 pub(crate) fn authority(target: &[u8]) -> Option<&[u8]>
     ensures { MatchOption result (is_absolute target.now ≡ false)
-        (λ authority. (is_absolute target.now ≡ true) × (authority.now ≡ authority_of target.now)) }
+        (λ authority. IsAuthority target.now authority.now) }
 {
     let rest = behind_scheme(target)?;
     Some(&rest[..authority_end(rest)])

@@ -1,4 +1,3 @@
 mod ControlLemmas
 mod DataFileLemmas
 mod OrderLemmas
-mod TerminalLemmas

@@ -13,5 +13,4 @@ pub mod Sending
 pub mod Sizes
 pub mod Status
 pub mod Summary
-pub mod Terminal
 pub mod Unread

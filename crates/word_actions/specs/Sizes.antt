@@ -1,7 +1,9 @@
 -- How many jobs fit into the account, and the lines that say it.
-use Rattle.std.specs.Prelude.{◌++◌, ◌∷◌, ◌-◌, ◌/◌, ◌==◌, ◌||◌, ℕ, Bool, List, [], codes, false, if◌then◌else◌, nat_lt, zero, suc}
+use Rattle.std.specs.Prelude.{◌++◌, ◌∷◌, ◌-◌, ◌/◌, ◌==◌, ◌||◌, ◌&&◌, ℕ, Bool, List, [], Result, Ok, Err, codes, false, if◌then◌else◌, length, nat_lt, zero, suc}
 use Rattle.std.specs.Fmt.{decimal}
 use Rattle.config_values.specs.Config as C
+use Rattle.word_actions.specs.declared.fault.ActionFault.{ActionFault}
+use Rattle.word_actions.specs.declared.fault.ActionFault.TheVariants.{NoJobFits}
 
 -- how many jobs of a queue fit between two moments without held jobs, each as large as the queue allows: the last entry
 -- is that of the close
@@ -34,3 +36,7 @@ size_lines c (suc n) = (size_lines c n ++ size_line c (suc n)) ++ held_line c (s
 abbrev pub takes_none : C.Config → ℕ → Bool
 takes_none c zero = false
 takes_none c (suc n) = takes_none c n || (jobs_that_fit c (suc n) == 0)
+
+-- what a check answers: where sizes are asked for, each queue has to take a job
+abbrev pub sizes_result : (sizes : Bool) → C.Config → Result Unit ActionFault
+sizes_result sizes c = if sizes && takes_none c (length c.queues) then Err NoJobFits else Ok tt

@@ -1,14 +1,14 @@
 //! What is done with files: a configuration is checked, and what spool it is for is said; a script is run.
 
-ghost use Rattle.std.specs.Prelude.{◌≡◌, ◌≢◌, ◌&&◌, OnOk, IfOk, IfErr, Err, Ok, Some, List, ℕ, if◌then◌else◌, length};
+ghost use Rattle.std.specs.Prelude.{◌≡◌, ◌≢◌, OnOk, IfOk, IfErr, Err, Ok, Some, List, ℕ, length};
 ghost use Rattle.std.specs.Prelude.{string_bytes};
 ghost use Rattle.lpd_commands.specs.Ends.{Writes};
 ghost use Rattle.lpd_script.specs.declared.fault.Fault.TheVariants.{ReadFile, WriteFile};
-ghost use Rattle.word_actions.specs.declared.fault.ActionFault.TheVariants.{NoJobFits, Run};
+ghost use Rattle.word_actions.specs.declared.fault.ActionFault.TheVariants.{Run};
 ghost use Rattle.word_actions.specs.Causes.{IsRunFault};
 ghost use Rattle.word_actions.specs.Order.{Checked, IsConfigFault, IsSpoolFault, IsUnchecked, ReadsConfig, ReadsSpool};
 ghost use Rattle.word_actions.specs.Order.{StopsAt, write_faults};
-ghost use Rattle.word_actions.specs.Sizes.{few_text, held_line, jobs_that_fit, size_line, size_lines, takes_none};
+ghost use Rattle.word_actions.specs.Sizes.{few_text, held_line, jobs_that_fit, size_line, size_lines, sizes_result, takes_none};
 ghost use Rattle.word_actions.specs.Summary.{check_text, out_of, spool_text, summary_line};
 ghost use Rattle.spool_config.specs.Answers.{fault_of};
 ghost use Rattle.spool_config.specs.declared.settings.ConfigFault.{ConfigFault};
@@ -111,7 +111,7 @@ fn takes_none(config: &Config) -> bool
 
 /// Looks, where sizes are asked for, whether each queue takes a job. NoJobFits where one doesn't.
 pub(crate) fn check_sizes(config: &Config, sizes: bool) -> Result<(), ActionFault>
-    ensures { result ≡ (if sizes && takes_none config.now (length config.now.queues) then Err NoJobFits else Ok tt) }
+    ensures { result ≡ sizes_result sizes config.now }
 {
     if sizes && takes_none(config) {
         return Err(ActionFault::NoJobFits);

@@ -13,7 +13,6 @@ mod reasons;
 mod remarks;
 mod running;
 mod sockets;
-mod terminal;
 
 pub use asking::ask_queue;
 pub use controlling::{ControlFault, ask_server, control};
@@ -25,4 +24,3 @@ pub use progress::PROGRESS;
 pub use remarks::remark_on;
 pub use running::{RunOutcome, System, data_file, run, send, tell_unread};
 pub use spool_config::PlacesFault;
-pub use terminal::TerminalWriter;
