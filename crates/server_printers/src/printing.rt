@@ -73,14 +73,13 @@ impl<R: Files<File = File> + Clock + Log + Wait, E: HouseLedger, S: PrintSink + 
         hall.put_offs.is_waiting(hall.rt, self.printer)
     }
 
-    /// A page of this job is written now. One that only now begins is a try of its printer, whoever started that: what fails of it from here on
-    /// fails, and wasn't put back.
-    fn take_up(&mut self, job: u64) {
+    /// A page of this job is to be written. Where the job only now begins that is a try of its printer, whoever started that: what fails of it
+    /// from here on fails, and wasn't put back.
+    fn note_try(&self, job: u64) {
         let (hall, printer) = (self.house.hall, self.printer);
         if self.job != Some(job) && self.house.first_try(printer, job).is_none() {
             hall.put_offs.end(hall.rt, printer);
         }
-        self.job = Some(job);
     }
 
     /// Notes a page that came back as not written, with which the printer stands still: its job has failed, or, where none is lost, had
@@ -121,7 +120,8 @@ impl<R: Files<File = File> + Clock + Log + Wait, E: HouseLedger, S: PrintSink + 
 
     fn write_page(&mut self, page: &HandedPage) -> Result<(), SinkFault> {
         let hall = self.house.hall;
-        self.take_up(page.job);
+        self.note_try(page.job);
+        self.job = Some(page.job);
         let written = self.sink.write_page(page);
         if written.is_ok() {
             hall.restarts.note_page(hall.rt, self.queue);
