@@ -1,11 +1,11 @@
 //! Lines about hosts whose connections are closed, one a minute for each: they aren't let in, or there is no room for them.
 
-ghost use Rattle.std.specs.Prelude.{◌≤◌};
+ghost use Rattle.std.specs.Prelude.{◌≤◌, ◌+◌};
 ghost use Rattle.std.specs.VecDeque.{deque_len};
 
 use log::{Log, warn};
 use std::alloc::Global;
-use std::collections::VecDeque;
+use std::collections::{BTreeMap, VecDeque};
 use std::fmt;
 use std::net::{Ipv4Addr, SocketAddr};
 use std::rt::Clock;
@@ -46,10 +46,9 @@ const AGAIN_SECONDS: u64 = 60;
 /// The most hosts that are told apart. All further ones share a line.
 const MOST_HOSTS: usize = 1_024;
 
-/// A host of which a line told, when that was, and how many of its connections came since.
-#[derive(Drop)]
+/// When a line told of a host, and how many of its connections came since.
+#[derive(Clone, Copy)]
 struct RefusedHost {
-    host: u32,
     told: Instant,
     more: u64,
 }
@@ -58,8 +57,9 @@ struct RefusedHost {
 #[derive(Drop)]
 pub(crate) struct Throttle {
     closing: Closing,
-    // The one whose line is the oldest stands first.
-    hosts: VecDeque<RefusedHost>,
+    hosts: BTreeMap<u32, RefusedHost>,
+    // Which these are: the one whose line is the oldest stands first.
+    order: VecDeque<u32>,
     // The connections of further hosts, and since when they are counted.
     others: u64,
     others_since: Option<Instant>,
@@ -76,7 +76,8 @@ impl Throttle {
     pub(crate) fn new(alloc: Global, closing: Closing) -> Throttle {
         Throttle {
             closing,
-            hosts: VecDeque::new(alloc),
+            hosts: BTreeMap::new(alloc),
+            order: VecDeque::new(alloc),
             others: 0,
             others_since: None,
         }
@@ -84,33 +85,39 @@ impl Throttle {
 
     /// For how many milliseconds at most a round waits: for ever where no line about a host is to come.
     pub(crate) fn patience_ms(&self) -> u64 {
-        if self.hosts.is_empty() && self.others_since.is_none() {
+        if self.order.is_empty() && self.others_since.is_none() {
             u64::MAX
         } else {
             AGAIN_SECONDS * 1_000
         }
     }
 
+    /// Remembers a host of which a line tells now. False where memory is refused.
+    fn remember(&mut self, now: Instant, host: u32) -> bool
+        ensures { deque_len self.new.order ≤ deque_len self.old.order + 1 }
+    {
+        if self.order.push_back(host).is_err() {
+            return false;
+        }
+        let refused = RefusedHost { told: now, more: 0 };
+        if self.hosts.insert(host, refused).is_err() {
+            self.order.pop_back();
+            return false;
+        }
+        true
+    }
+
     /// Counts a connection of a host. Whether a line tells of it at once, as the first one of its
     /// host in a minute, where there is a place for one host more.
     fn count(&mut self, now: Instant, host: u32) -> bool
-        ensures { deque_len self.old.hosts ≤ 1024 → deque_len self.new.hosts ≤ 1024 }
+        ensures { deque_len self.old.order ≤ 1024 → deque_len self.new.order ≤ 1024 }
     {
-        if let Some(at) = self.hosts.iter().position(|refused| refused.host == host) {
-            if let Some(refused) = self.hosts.get_mut(at) {
-                refused.more = refused.more.saturating_add(1);
-            }
+        if let Some(refused) = self.hosts.get_mut(&host) {
+            refused.more = refused.more.saturating_add(1);
             return false;
         }
-        if self.hosts.len() < MOST_HOSTS {
-            let first = RefusedHost {
-                host,
-                told: now,
-                more: 0,
-            };
-            if self.hosts.push_back(first).is_ok() {
-                return true;
-            }
+        if self.order.len() < MOST_HOSTS && self.remember(now, host) {
+            return true;
         }
         self.others = self.others.saturating_add(1);
         self.others_since = self.others_since.or(Some(now));
@@ -135,33 +142,40 @@ impl Throttle {
 
     /// Says of a host how many of its connections were closed since its last line; it is forgotten
     /// where none was.
-    fn tell_host<R: Clock + Log>(&mut self, rt: &R, refused: RefusedHost) {
-        let RefusedHost { host, more, .. } = refused;
+    fn tell_host<R: Clock + Log>(&mut self, rt: &R, host: u32) {
+        let Some(RefusedHost { more, .. }) = self.hosts.remove(&host) else {
+            return;
+        };
         if more == 0 {
             return;
         }
         let address = Ipv4Addr::from_bits(host);
         let closing = self.closing;
         warn!(rt; target: closing.part(), "{address}: {more} more connections {closing}");
-        if let Ok(told) = Instant::now(rt) {
-            let _ = self.hosts.push_back(RefusedHost {
-                host,
-                told,
-                more: 0,
-            });
+        if let Ok(now) = Instant::now(rt) {
+            self.remember(now, host);
+        }
+    }
+
+    /// Whether the line about a host is a minute old.
+    fn is_due<R: Clock>(&self, rt: &R, host: u32) -> bool {
+        match self.hosts.get(&host) {
+            Some(refused) => is_old(rt, refused.told),
+            None => true,
         }
     }
 
     /// Says what came since each line that is a minute old.
     pub(crate) fn tell_again<R: Clock + Log>(&mut self, rt: &R) {
         for _ in 0..MOST_HOSTS {
-            let oldest = self.hosts.front();
-            if !oldest.is_some_and(|refused| is_old(rt, refused.told)) {
+            let Some(oldest) = self.order.front().copied() else {
+                break;
+            };
+            if !self.is_due(rt, oldest) {
                 break;
             }
-            if let Some(refused) = self.hosts.pop_front() {
-                self.tell_host(rt, refused);
-            }
+            self.order.pop_front();
+            self.tell_host(rt, oldest);
         }
         if self.others_since.is_some_and(|since| is_old(rt, since)) {
             let (others, closing) = (self.others, self.closing);
