@@ -432,6 +432,28 @@ def a_printer_that_moves():
         return "both places"
 
 
+def pipes_in_the_place_of_files():
+    """A pipe in the place of what was a printer's file, or a job's file in a folder, keeps no audit waiting: it is told. (The audit waited for ever.)"""
+    with Books("--keep-room") as room:
+        jobs = f"{room.folder}/jobs"
+        os.mkdir(jobs)
+        room.words = ("--keep-room", "--printer", f"1=file:{room.folder}/one", "--printer", f"2=folder:{jobs}")
+        room.start()
+        for queue in ("lp", "plotter"):
+            check(send(room.port, 1, b"a page", queue) == 0, "a job isn't taken")
+        room.stop()
+        for path in (f"{room.folder}/one", f"{jobs}/job-0000000001"):
+            os.remove(path)
+            os.mkfifo(path)
+        start = time.monotonic()
+        status, out, why = room.audit("--printed", f"1={room.folder}/one", "--printed", f"2={jobs}")
+        took = time.monotonic() - start
+        check("not judged 1: it can't be read again\n" in out, f"{status} {out}{why}")
+        check(status == 6 and re.search(r"fault 83 Printed \S+ printer 2 job \d+ isn't in \S+/job-0000000001\n", why), f"{status} {out}{why}")
+        check(took < 5, f"{took:.1f} s")
+        return f"{took:.2f} s"
+
+
 def a_last_segment_that_goes_on():
     """A server doesn't go on behind a last segment with octets behind its last line, nor behind one that is cut off or empty: it says which file it is."""
     with Books("--keep-room") as room:
@@ -522,7 +544,7 @@ def write_segment(path, run, previous, entries):
     return count
 
 
-SCENES = [written_and_audited, changed_files_are_told, folders, what_was_used, names_are_no_formulas, a_printer_that_moves, a_last_segment_that_goes_on, a_full_disk, hostile_files, a_long_account]
+SCENES = [written_and_audited, changed_files_are_told, folders, what_was_used, names_are_no_formulas, a_printer_that_moves, pipes_in_the_place_of_files, a_last_segment_that_goes_on, a_full_disk, hostile_files, a_long_account]
 
 if __name__ == "__main__":
     sys.exit(main(SCENES, __doc__))

@@ -1,0 +1,215 @@
+#!/usr/bin/env python3
+"""Scenes of what a server is told to do, by signals and at its control socket: commanding.py PROGRAM [SCENE..], where PROGRAM is the built lpd_server.
+
+Each scene is bounded in time, and runs on loopback alone. A line says what was seen; the last line is 'N passed, M failed'."""
+import contextlib
+import os
+import re
+import signal
+import socket
+import subprocess
+import sys
+import threading
+import time
+
+from client import answer, connect, control, send, together
+from keeping import Room
+from scene import CHECKED, PROGRAM, check, main
+
+
+def command(room, *words):
+    """A command to the server's control socket that isn't waited for."""
+    return subprocess.Popen([PROGRAM, "control", f"{room.folder}/control", *words], stdin=subprocess.DEVNULL, stdout=subprocess.DEVNULL,
+                            stderr=subprocess.DEVNULL)
+
+
+def talk(room, octets, ends, limit=15):
+    """What is answered at the control socket to these octets, and how long that took; whether the client ends its sending behind them."""
+    start = time.monotonic()
+    with socket.socket(socket.AF_UNIX) as peer:
+        peer.settimeout(limit)
+        peer.connect(f"{room.folder}/control")
+        peer.sendall(octets)
+        if ends:
+            peer.shutdown(socket.SHUT_WR)
+        told = b""
+        while piece := peer.recv(65536):
+            told += piece
+    return told, time.monotonic() - start
+
+
+def signals_that_stop():
+    """A server that was started with SIGTERM blocked ends by it with status 0, once its jobs are printed; and so by SIGINT."""
+    for name in ("TERM", "INT"):
+        with Room() as room:
+            plain = room.line()
+            room.line = lambda: ["env", f"--block-signal={name}", *plain]
+            room.start()
+            check(send(room.port, 1, b"x" * 100_000) == 0, "a job is taken")
+            room.server.send_signal(getattr(signal, f"SIG{name}"))
+            check(room.server.wait(20) == 0, f"SIG{name}: {room.server.returncode}: {room.log()[-300:]}")
+            check(room.printed() == b"x" * 100_000, "the job isn't printed")
+    return "both"
+
+
+def the_earlier_stop_holds():
+    """Of two stops the earlier end holds, in whichever order they come: behind `stop 40` a `stop 3` ends a server amid a job after three seconds, and so the other
+    way round."""
+    seen = []
+    for first, second in ((40, 3), (3, 40)):
+        with Room() as room:
+            os.mkfifo(f"{room.folder}/printer-1")
+            room.start()
+            check(send(room.port, 1, b"x" * 200_000) == 0, "a job is taken")
+            start = time.monotonic()
+            asked = [command(room, "stop", str(first))]
+            time.sleep(0.5)
+            asked.append(command(room, "stop", str(second)))
+            try:
+                room.server.wait(25)
+            except subprocess.TimeoutExpired as error:
+                raise AssertionError(f"stop {first}, then {second}: not in 25 s") from error
+            finally:
+                for one in asked:
+                    one.kill()
+                    one.wait()
+            took = time.monotonic() - start
+            check(2.5 < took < 12, f"stop {first}, then {second}: {took:.1f} s")
+            seen.append(took)
+    return f"after {seen[0]:.1f} and {seen[1]:.1f} s"
+
+
+def rotations_that_are_refused():
+    """A rotation that is refused gives its place back: after many of them, with an account in files, the next that may be done is."""
+    with Room() as room:
+        plain = [word for word in room.line() if word != "--keep-room"] + ["--account", f"{room.folder}/account"]
+        room.line = lambda: plain
+        room.start()
+        room.tell("hold", "lp")
+        check(send(room.port, 1, b"x" * 1000) == 0, "a job is taken")
+        for number in range(6):
+            # (a held job may wait in the folder alone, and then nothing is in the way)
+            told = room.tell("rotate")
+            check("segments of the account wait" not in told, f"the {number + 1}th: {told}")
+        room.tell("release", "lp")
+        room.await_files(0)
+        for number in range(6):
+            for _ in range(50):
+                told = room.tell("rotate")
+                if "rotated" in told:
+                    break
+                time.sleep(0.1)
+            check("rotated" in told, f"once nothing is held: {told}")
+    return "six of each"
+
+
+def clients_that_end_their_sending():
+    """A client of the control socket that ends its sending behind its line is answered all the same, also of a stop, and so is one that sends on behind its line while its
+    answer is written."""
+    with Room() as room:
+        room.start()
+        told, _ = talk(room, b"status\n", True)
+        check(told.endswith(b"end done\n"), told[-80:])
+        # (what stands behind a line is passed over while the answer is written: else the end is a reset, and the answer may be lost)
+        told, _ = talk(room, b"status\n" + b"x" * 3_000, False)
+        check(told.endswith(b"end done\n"), told[-80:])
+        told, took = talk(room, b"stop\n", True)
+        check(told.endswith(b"end done\n"), told)
+        check(room.server.wait(10) == 0, room.server.returncode)
+        return f"a stop after {took:.2f} s"
+
+
+def no_octet_behind_a_stop_now():
+    """Of jobs that come while the server is stopped at once, in memory alone: each that was acknowledged is printed, or a line of the log says that it is lost."""
+    lost = printed = 0
+    for turn in range(6 if CHECKED else 20):
+        with Room() as room:
+            plain = room.line()
+            at = plain.index("--spool")
+            room.line = lambda: plain[:at] + plain[at + 2:]
+            room.start()
+            taken, gate = [], threading.Event()
+
+            def client(number):
+                gate.wait()
+                for job in range(50):
+                    name = f"u{number}x{job}"
+                    octets, text = f"<{name}>".encode(), control(job, name)
+                    with contextlib.suppress(OSError), contextlib.closing(connect(room.port, f"127.0.4.{number + 1}", 5)) as peer:
+                        for part in (b"\x02lp\n", f"\x03{len(octets)} dfA{job:03}h1\n".encode(), octets + b"\0", f"\x02{len(text)} cfA{job:03}h1\n".encode()):
+                            peer.sendall(part)
+                            if answer(peer) != 0:
+                                return
+                        peer.sendall(text + b"\0")
+                        if answer(peer) == 0:
+                            taken.append(name)
+                            continue
+                    return
+
+            threads = [threading.Thread(target=client, args=(number,), daemon=True) for number in range(8)]
+            for thread in threads:
+                thread.start()
+            gate.set()
+            time.sleep(0.02 + 0.02 * turn)
+            room.tell("stop", "now")
+            room.server.wait(20)
+            for thread in threads:
+                thread.join(20)
+            out, log = room.printed().decode(), room.log()
+            for name in taken:
+                if f"<{name}>" in out:
+                    printed += 1
+                else:
+                    check(re.search(rf" {name}@h1 \d+ octets is lost", log), f"{name} was acknowledged, isn't printed, and isn't told: {log[-300:]}")
+                    lost += 1
+    return f"{printed} printed, {lost} told as lost"
+
+
+def pauses_begin_anew_behind_a_page():
+    """With --restart a queue's pause grows from failure to failure, and is as short as at first once a page was printed in between."""
+    with Room("--restart", "1") as room:
+        os.symlink("/dev/full", f"{room.folder}/printer-1")
+        room.start()
+
+        def fail(count):
+            """Sends a job that fails, and answers how long it takes until the queue is started again, by the next job's failure."""
+            start = time.monotonic()
+            check(send(room.port, count % 1000, b"x") == 0, "a job is taken")
+            room.await_files(count, "failed", 30)
+            return time.monotonic() - start
+
+        fail(1)
+        waits = [fail(number) for number in (2, 3, 4)]
+        check(waits[2] > 2.5, f"the pauses don't grow: {waits}")
+        os.remove(f"{room.folder}/printer-1")
+        room.kill()
+        # (a printer's file is opened at the start alone: one that is full and then isn't is a pipe)
+        return f"{', '.join(f'{wait:.1f}' for wait in waits)} s"
+
+
+def many_syncs_wake_each():
+    """While each sync of the folder takes 0.2 s eight clients with six jobs each are all answered within some seconds: one sync serves all that wait, and wakes each."""
+    with Room() as room:
+        room.start()
+        watcher = subprocess.Popen(["strace", "-ff", "-qq", "-o", "/dev/null", "-e", "trace=fsync", "-e", "inject=fsync:delay_enter=200000", "-p",
+                                    str(room.server.pid)], stdin=subprocess.DEVNULL, stderr=subprocess.DEVNULL)
+        time.sleep(2)
+        if watcher.poll() is not None:
+            raise subprocess.CalledProcessError(1, ["strace"])
+        try:
+            start = time.monotonic()
+            answers = together(8, lambda number: [send(room.port, job, b"x" * 100, host=f"127.0.3.{number + 1}") for job in range(6)])
+            took = time.monotonic() - start
+        finally:
+            watcher.terminate()
+            watcher.wait(10)
+        check(answers == [[0] * 6] * 8, answers)
+        check(took < 15, f"{took:.1f} s")
+        return f"{took:.1f} s"
+
+
+SCENES = (signals_that_stop, the_earlier_stop_holds, rotations_that_are_refused, clients_that_end_their_sending, no_octet_behind_a_stop_now,
+          pauses_begin_anew_behind_a_page, many_syncs_wake_each)
+
+if __name__ == "__main__":
+    sys.exit(main(SCENES, __doc__))
