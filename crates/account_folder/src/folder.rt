@@ -119,13 +119,22 @@ fn begin_of(base: Base, since: u64, freed: u64) -> Begin
     }
 }
 
+/// Gives a file another name. AlreadyExists where a file has that: somebody has put it there.
+fn rename_anew<R: Files<File = File>>(rt: &R, from: &str, to: &str) -> io::Result<()> {
+    match fs::symlink_metadata(rt, to) {
+        Ok(_) => Err(io::ErrorKind::AlreadyExists.into()),
+        Err(cause) if cause.kind() == io::ErrorKind::NotFound => fs::rename(rt, from, to),
+        Err(cause) => Err(cause),
+    }
+}
+
 impl AccountFolder {
     /// The folder at this path, which is made where nothing is there, for a run of this configuration and of these printers that
     /// begins at this time. Temporary files that a server has left are removed.
     ///
     /// # Errors
     ///
-    /// `Broken` where its last segment isn't whole; `Full` where no number is left; `Folder`, by `InUse` where another server has it,
+    /// `Broken` where its last segment isn't whole; `Full` where no number is left; `Left` where a temporary file can't be removed; `Folder`, by `InUse` where another server has it,
     /// and by `Failed` where it can't be made, opened or read, or memory is refused.
     pub fn open<R: Files<File = File>>(
         rt: &R,
@@ -139,7 +148,9 @@ impl AccountFolder {
         let listing = list(rt, alloc, path)?;
         for name in &listing.left {
             let path = format!(in alloc; "{path}/{name}.tmp").map_err(io::Error::from)?;
-            fs::remove_file(rt, path.as_str())?;
+            if let Err(cause) = fs::remove_file(rt, path.as_str()) {
+                return Err(AccountOpenError::Left(*name, cause));
+            }
         }
         let next = next_in(rt, alloc, path, &listing)?;
         Ok(AccountFolder {
@@ -239,7 +250,7 @@ impl AccountFolder {
         let temporary = format!(in self.alloc; "{path}/{name}.tmp")?;
         let whole = format!(in self.alloc; "{path}/{name}")?;
         let made = match self.write(rt, temporary.as_str()) {
-            Ok(digest) => { fs::rename(rt, temporary.as_str(), whole.as_str()).map(|()| digest) }
+            Ok(digest) => rename_anew(rt, temporary.as_str(), whole.as_str()).map(|()| digest),
             Err(cause) => Err(cause),
         };
         if made.is_err() {

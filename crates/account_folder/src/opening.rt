@@ -13,6 +13,8 @@ pub enum AccountOpenError {
     Folder(FolderError),
     /// The file of the greatest number isn't a whole segment.
     Broken(SegmentName),
+    /// What has the name of a temporary file of this one can't be removed: it is no file, say.
+    Left(SegmentName, io::Error),
     /// No number is left for a file, or for a run.
     Full,
 }
@@ -37,6 +39,7 @@ impl Display for AccountOpenError {
                 f,
                 "{name} isn't a whole segment: move it away"
             ),
+            AccountOpenError::Left(name, cause) => write!(f, "{name}.tmp: {cause}"),
             AccountOpenError::Full => f.write_str("no number is left for a segment"),
         }
     }

@@ -78,11 +78,6 @@ impl FolderReread {
         }
     }
 
-    /// The path of the folder.
-    pub(crate) fn path(&self) -> &str {
-        self.path.as_str()
-    }
-
     /// How many octets were those of the pages that were printed.
     pub(crate) fn octets(&self) -> u64 {
         self.octets

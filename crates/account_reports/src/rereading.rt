@@ -171,12 +171,12 @@ impl Reread {
         }
     }
 
-    /// Which file or folder is read.
-    fn path(&self) -> &str {
+    /// Which file was judged last; the folder where it isn't known which of its files is the job's. AllocError where memory is refused.
+    fn judged_path(&self, alloc: Global) -> Result<String, AllocError> {
         match self {
-            Reread::Nowhere => "",
-            Reread::File(file) => file.path.as_str(),
-            Reread::Folder(folder) => folder.path(),
+            Reread::Nowhere => Ok(String::new(alloc)),
+            Reread::File(file) => String::from_str(alloc, file.path.as_str()),
+            Reread::Folder(folder) => folder.wanted(alloc),
         }
     }
 
@@ -372,7 +372,7 @@ impl<'r> Rereading<'r> {
             Ok(()) => Ok(()),
             Err(TrailFault::Memory) => Err(ReportFault::Memory),
             Err(TrailFault::Differs(differs)) => {
-                let text = String::from_str(alloc, reread.path())?;
+                let text = reread.judged_path(alloc)?;
                 let told = (differs.job, reread.last_file());
                 let place = Octets::copy_of(alloc, printed.place.as_slice())?;
                 let fault = ReportFault::Printed(path, line, differs, text);

@@ -108,6 +108,8 @@ pub struct Listening {
     pub places: u64,
     /// How many are accepted, those that may not come in too.
     pub connections: u64,
+    /// Whether a connection waits for its first line before it is handed on. Where it doesn't, whoever takes it bounds how long that may take.
+    pub awaits_lines: bool,
     pub doorway: Doorway,
 }
 
@@ -123,6 +125,7 @@ impl Lobby {
             address,
             places,
             connections,
+            awaits_lines,
             doorway,
         } = listening;
         let listener = TcpListener::bind(rt, address)?;
@@ -133,7 +136,7 @@ impl Lobby {
             heard: Vec::new(alloc),
             left: connections,
             accepted: 0,
-            room: WaitingRoom::new(alloc),
+            room: WaitingRoom::new(alloc, awaits_lines),
             // The first round accepts.
             pause_ms: Some(0),
             closed: 0,
@@ -185,7 +188,7 @@ impl Lobby {
         ensures none { (self.new.room.callers.items ≡ []) × (self.new.room.free.items ≡ []) }
     {
         self.left = 0;
-        self.room = WaitingRoom::new(alloc);
+        self.room = WaitingRoom::new(alloc, self.room.awaits_lines);
     }
 
     /// Takes a guest out of its place.

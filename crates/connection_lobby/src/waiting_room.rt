@@ -88,6 +88,8 @@ pub(crate) struct Ready {
 pub(crate) struct WaitingRoom {
     // Those whose first line isn't whole.
     guests: Guests,
+    // Whether they wait for their first lines: else each is ready as it comes.
+    pub(crate) awaits_lines: bool,
     // The number of the guest at each place, by order of arrival.
     numbers: Vec<u64>,
     pub(crate) callers: Vec<Option<Caller>>,
@@ -116,10 +118,11 @@ fn stage_of(stream: &TcpStream, is_ended: bool) -> (GuestStage, Purpose) {
 
 impl WaitingRoom {
     /// No place.
-    pub(crate) fn new(alloc: Global) -> WaitingRoom
+    pub(crate) fn new(alloc: Global, awaits_lines: bool) -> WaitingRoom
         ensures { (result.callers.items ≡ []) × (result.free.items ≡ []) }
     {
         WaitingRoom {
+            awaits_lines,
             guests: Guests::new(alloc),
             numbers: Vec::new(alloc),
             callers: Vec::new(alloc),
@@ -303,7 +306,11 @@ impl WaitingRoom {
         if matches!(self.guests.stage(number), GuestStage::Ready) {
             return Ok(true);
         }
-        let (stage, purpose) = stage_of(&caller.stream, is_ended);
+        let (stage, purpose) = if self.awaits_lines {
+            stage_of(&caller.stream, is_ended)
+        } else {
+            (GuestStage::Ready, Purpose::Short)
+        };
         let host = caller.host();
         match stage {
             GuestStage::Silent => {}

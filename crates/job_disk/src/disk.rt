@@ -120,13 +120,14 @@ impl<'a, R: Files<File = File> + Wait> Disk<'a, R> {
         fs::remove_file(self.rt, path.as_str())
     }
 
-    /// Gives a file the name of another stage.
+    /// Gives a file the name of another stage. AlreadyExists where a file has that: somebody has put it there, and it may be a job of its own.
     pub(crate) fn rename(&self, name: KeptFileName, stage: FileStage) -> io::Result<()> {
         let number = name.number;
-        let (from, to) = (
-            self.path_of(name)?,
-            self.path_of(KeptFileName { number, stage })?,
-        );
+        let renamed = KeptFileName { number, stage };
+        if !self.is_gone(renamed) {
+            return Err(io::ErrorKind::AlreadyExists.into());
+        }
+        let (from, to) = (self.path_of(name)?, self.path_of(renamed)?);
         fs::rename(self.rt, from.as_str(), to.as_str())
     }
 

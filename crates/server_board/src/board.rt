@@ -13,7 +13,7 @@ use server_counts::LastHour;
 use std::alloc::{AllocError, Global};
 use std::net::{Net, SocketAddr, TcpListener, TcpStream};
 
-/// How many connections may wait for their first lines.
+/// How many connections may wait until they are taken.
 pub(crate) const PLACES: u64 = 64;
 
 /// The name by which a browser on this machine asks.
@@ -60,6 +60,7 @@ pub fn open_board<R: Log + Net<Listener = TcpListener, Stream = TcpStream>>(
         address,
         places: PLACES,
         connections: u64::MAX,
+        awaits_lines: false,
         doorway,
     };
     match Lobby::new(rt, alloc, listening) {

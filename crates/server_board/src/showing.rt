@@ -1,7 +1,7 @@
 //! The thread that shows the status of the server to browsers and to what monitors it: one request and one response a connection, many
 //! connections at a time.
 //!
-//! A connection is taken out of the lobby once its first line has come, and is one of at most 128 exchanges from then on. No call waits
+//! A connection is taken out of the lobby as it comes, and is one of at most 128 exchanges from then on: its head has two seconds. No call waits
 //! for one of them alone, so those that halt hold up nobody; where there are too many, who has halted longest gives way.
 
 use crate::board::{Board, PLACES};
@@ -152,7 +152,7 @@ impl<R: Files<File = File> + Clock + Log + Wait, E: HouseLedger> Surveyor<'_, '_
         }
     }
 
-    /// Begins an exchange with each connection whose first line has come. Whether there was one.
+    /// Begins an exchange with each connection that has come. Whether there was one.
     fn welcome_all(&self, board: &mut Board, exchanges: &mut Exchanges) -> bool {
         let mut has_come = false;
         for _ in 0..PLACES {

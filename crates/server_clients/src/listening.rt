@@ -50,6 +50,7 @@ pub fn listen<R: Log + Net<Listener = TcpListener, Stream = TcpStream>>(
         address,
         places: places(descriptor_limit(), kept).max(1),
         connections: settings.connections.unwrap_or(u64::MAX),
+        awaits_lines: true,
         doorway: Doorway::new(alloc, allowed, proxied),
     };
     match Lobby::new(rt, alloc, listening) {
