@@ -106,6 +106,39 @@ def a_job_whose_file_is_gone():
         return desk.log().strip().splitlines()[-1][-80:]
 
 
+def what_is_put_there_is_not_written_over():
+    """A file that somebody puts into the folder under the number that the next job would get stays, and is printed by the next server: that job is refused for now,
+    and the one behind it taken. Likewise a failed job's file. (The new job was written over it, without a word.)"""
+    with Room() as room:
+        os.symlink("/dev/full", f"{room.folder}/printer-3")
+        room.start()
+        room.tell("hold", "lp")
+        check(send(room.port, 1, b"<first>") == 0, "it isn't taken")
+        job = open(f"{room.kept}/1.job", "rb").read()
+        with open(f"{room.kept}/2.job", "wb") as file:
+            file.write(job)
+        octet = send(room.port, 2, b"<another>")
+        check(octet == 2, f"answered by {octet}")
+        room.await_log("2.tmp: ")
+        check(open(f"{room.kept}/2.job", "rb").read() == job, "it is written over")
+        check(send(room.port, 3, b"<third>") == 0, "the next one isn't taken")
+        with open(f"{room.kept}/4.failed", "wb") as file:
+            file.write(b"somebody's")
+        room.tell("release", "lp")
+        check(send(room.port, 4, b"<fourth>", queue="bad") == 0, "one that will fail isn't taken")
+        room.await_log("4.job: ")
+        check(open(f"{room.kept}/4.failed", "rb").read() == b"somebody's", "a failed one is written over")
+        room.kill()
+        os.remove(f"{room.kept}/4.failed")
+        was = room.printed()
+        check(was == b"<first><third>", was)
+        room.start()
+        room.await_files(1, "failed")
+        room.await_files(0)
+        check(room.printed() == b"<first><third><first>", room.printed())
+        return [line for line in room.log().splitlines() if "2.tmp" in line][0][-100:]
+
+
 def what_is_no_job_is_not_resent():
     """Nothing is renamed, and no count changes: of a link to another file, of other octets, of another queue's, and beside a whole one."""
     with Counted() as desk:
@@ -281,7 +314,7 @@ def a_stop_behind_a_stop():
     return ", ".join(seen)
 
 
-SCENES = [a_failed_file_is_deleted, a_waiting_file_is_deleted, a_job_whose_file_is_gone, what_is_no_job_is_not_resent, a_lock_is_deleted, an_accounts_lock_is_deleted,
+SCENES = [a_failed_file_is_deleted, a_waiting_file_is_deleted, a_job_whose_file_is_gone, what_is_put_there_is_not_written_over, what_is_no_job_is_not_resent, a_lock_is_deleted, an_accounts_lock_is_deleted,
           numbers_that_no_job_has, a_temporary_that_is_a_folder, a_job_that_is_not_kept_is_logged_once, what_is_fed_is_not_lost, a_stop_behind_a_stop]
 
 

@@ -124,6 +124,18 @@ def peers_that_halt_hold_up_nobody():
             return f"the slowest scrape {slowest:.2f} s, the slowest job {jobs:.2f} s, {alone:.2f} s alone; heads halted {crowd.came} times"
 
 
+def who_ends_no_line_is_told():
+    """Who says nothing, begins a line, ends its lines with CR alone, or comes as to https://, is answered 408 after 2 s. (They waited for ever.)"""
+    with shown() as (_, port):
+        peers = [open_to(port, octets) for octets in (b"", b"G", b"GET / HTTP/1.1", b"GET / HTTP/1.1\rHost: localhost\r\r", b"\x16\x03\x01\x02\0\x01\0\x01\xfc")]
+        start = time.monotonic()
+        told = [code(rest(peer)) for peer in peers]
+        took = time.monotonic() - start
+        check(all(it in (400, 408) for it in told), told)
+        check(took < 10, f"{took:.1f} s")
+        return f"{told}, after {took:.1f} s"
+
+
 def who_has_halted_longest_gives_way():
     """Of 132 halted heads the first are closed for the last, with no answer; the others are told after 2 s that it took too long."""
     with shown() as (_, port):
@@ -194,6 +206,7 @@ def a_slow_reader_has_a_whole_page():
 
 SCENES = [
     peers_that_halt_hold_up_nobody,
+    who_ends_no_line_is_told,
     who_has_halted_longest_gives_way,
     a_host_is_an_address_or_localhost,
     a_request_in_single_octets,

@@ -41,6 +41,7 @@ def a_room():
         for folder, name in (("piped", "lock"), ("chained", "segment-0000000001")):
             os.mkdir(f"{room}/{folder}")
             os.mkfifo(f"{room}/{folder}/{name}")
+        os.makedirs(f"{room}/littered/segment-0000000007.tmp")
         yield room
 
 
@@ -75,6 +76,7 @@ def a_start_tells_why_it_failed():
             ([*serve, "--account", "a/b"], 4, "fault 73 WriteFile a/b", r"a/b: No such file"),
             ([*serve, "--spool", "piped"], 4, "fault 73 WriteFile piped", r"piped: its lock is no file"),
             ([*serve, "--account", "chained"], 4, "fault 73 WriteFile chained", r"chained: .*segment-0000000001"),
+            ([*serve, "--account", "littered"], 4, "fault 73 WriteFile littered", r"littered: segment-0000000007\.tmp: Is a directory"),
             ([*serve, "--control", "nosuch/socket"], 4, "fault 72 Network nosuch/socket", r"nosuch/socket: No such file"),
             ([*serve, "--control", "file"], 4, "fault 72 Network file", r"file: "),
         ]
