@@ -25,6 +25,9 @@ use std::sync::Wait;
 use std::thread;
 use std::time::Duration;
 
+/// The part of the program that logs what happens here, as the log names it.
+const PART: &str = "server_care::showing";
+
 /// The time between two looks at where the pages are, in seconds.
 const LOOK_SECONDS: u64 = 60;
 
@@ -135,7 +138,7 @@ impl<R: Files<File = File> + Clock + Log + Wait, E: HouseLedger> Surveyor<'_, '_
             Ok(response) => exchanges.answer(at, response, board.now_ms),
             Err(AllocError) => {
                 exchanges.end(at);
-                warn!(self.hall.rt; "memory was refused to show the status");
+                warn!(self.hall.rt; target: PART, "memory was refused to show the status");
             }
         }
     }
@@ -148,7 +151,8 @@ impl<R: Files<File = File> + Clock + Log + Wait, E: HouseLedger> Surveyor<'_, '_
         }
         match exchanges.begin(stream, board.now_ms) {
             Ok(at) => self.serve(board, exchanges, at),
-            Err(AllocError) => warn!(self.hall.rt; "{peer}: memory was refused to show the status"),
+            Err(AllocError) =>
+                warn!(self.hall.rt; target: PART, "{peer}: memory was refused to show the status"),
         }
     }
 
@@ -184,7 +188,7 @@ impl<R: Files<File = File> + Clock + Log + Wait, E: HouseLedger> Surveyor<'_, '_
             .saturating_sub(board.now_ms)
             .min(LOOK_SECONDS * 1_000);
         if let Err(error) = board.lobby.round(self.hall.rt, Some(limit_ms.min(due_ms))) {
-            warn!(self.hall.rt; "the status can't be asked for: {error}");
+            warn!(self.hall.rt; target: PART, "the status can't be asked for: {error}");
             thread::sleep(self.hall.rt, Duration::from_millis(PAUSE_MS));
         }
     }

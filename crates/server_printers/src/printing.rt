@@ -20,6 +20,9 @@ use std::rt::Clock;
 use std::sync::Wait;
 use std::time::Instant;
 
+/// The part of the program that logs what happens here, as the log names it.
+const PART: &str = "lpd_daemon::printing";
+
 /// How a job ends for its folder that a printer has left so: None where others end it, or it stays for the next start. What was printed
 /// and isn't where it should be has failed.
 fn end_of(leaving: Leaving, is_there: bool) -> Option<JobEnd>
@@ -62,8 +65,10 @@ impl<R: Files<File = File> + Clock + Log + Wait, E: HouseLedger, S: PrintSink + 
         let cause = self.sink.cause();
         hall.oversight.standstills.begin(hall.rt, printer, cause);
         match cause {
-            Some(cause) => warn!(hall.rt; "printer {printer}: job {job}, place {place}: {cause}"),
-            None => warn!(hall.rt; "printer {printer}: job {job}, place {place}: not written"),
+            Some(cause) =>
+                warn!(hall.rt; target: PART, "printer {printer}: job {job}, place {place}: {cause}"),
+            None =>
+                warn!(hall.rt; target: PART, "printer {printer}: job {job}, place {place}: not written"),
         }
     }
 
@@ -148,7 +153,7 @@ impl<R: Files<File = File> + Clock + Log + Wait, E: HouseLedger, S: PrintSink + 
         }
         let left = self.sink.leave_job(how);
         if let (Err(SinkFault), Some(cause)) = (left, self.sink.cause()) {
-            warn!(hall.rt; "printer {printer}: a job that was printed is not in its folder: {cause}");
+            warn!(hall.rt; target: PART, "printer {printer}: a job that was printed is not in its folder: {cause}");
         }
         if let (Some(job), Some(end)) = (self.job.take(), end_of(how, left.is_ok())) {
             hall.end_job(job, end);
