@@ -1,7 +1,7 @@
 //! The exchanges that one thread has in hand, which goes over all of them in turn.
 
 ghost use Rattle.std.specs.Prelude.{◌≡◌, ◌+◌, ◌≤◌, ℕ, IfOk, length};
-ghost use Rattle.status_exchanges.specs.Exchanges.{without};
+ghost use Rattle.status_exchanges.specs.Exchanges.{AreWithin, without};
 ghost use Rattle.status_exchanges.specs.declared.exchanges.TheConstants.{MOST_EXCHANGES};
 
 use crate::exchange::{Exchange, Turn};
@@ -43,8 +43,7 @@ impl Model for Exchanges {
 
     ghost view = { λ exchanges. length exchanges.open.items };
 
-    ghost invariant = { λ exchanges. (length exchanges.standings.items ≡ length exchanges.open.items)
-        × (length exchanges.open.items ≤ MOST_EXCHANGES) };
+    ghost invariant = { λ it. AreWithin (length it.open.items) (length it.standings.items) };
 }
 
 impl Exchanges {

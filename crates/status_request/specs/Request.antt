@@ -1,7 +1,8 @@
 -- What octets ask for, in the words of httparse's grammar of a request's head (RFC 9112).
 use Rattle.std.specs.Prelude.{◌≡◌, ◌≢◌, ◌<◌, ◌≤◌, ◌⊎◌, ℕ, List, length, map}
 use Rattle.httparse.specs.Grammar.{RequestHead, ReadsRequest, HasNoRequest, NeverHasRequest, MayBecomeRequest}
-use Rattle.httparse.specs.Spans.{RequestOverflows, name_and_value}
+use Rattle.httparse.specs.Spans.{RequestOverflows, header_bytes, name_and_value}
+use Rattle.httparse.specs.declared.spans.HeaderSpan.{HeaderSpan}
 use Rattle.status_request.specs.declared.asked.Method.{Method}
 use Rattle.status_request.specs.declared.asked.Resource.{Resource}
 use Rattle.status_request.specs.declared.judged.RequestReading.{RequestReading}
@@ -15,6 +16,10 @@ use Rattle.status_request.specs.Asked.{IsServerNamed, host_values, method_name, 
 abbrev pub IsNamed : (name : List ℕ) (minor : ℕ) (target : List ℕ) (fields : List (List ℕ × List ℕ)) → Type 0
 IsNamed name minor target fields =
     let count = length (host_values fields) in ((count ≡ 1) ⊎ ((count ≡ 0) × (minor ≡ 0))) × IsServerNamed name target fields
+
+-- the names and values of fields, which lie so among these octets
+abbrev pub fields_of : List ℕ → List HeaderSpan → List (List ℕ × List ℕ)
+fields_of octets fields = map (header_bytes octets) fields
 
 -- the server of this name is meant by a head
 abbrev pub IsMeant : List ℕ → RequestHead → Type 0

@@ -3,10 +3,10 @@
 //! These have to name an address, `localhost` or the name of `--status-host`: a name that somebody else's page points here is none
 //! of these.
 
-ghost use Rattle.std.specs.Prelude.{◌≡◌, ◌↔◌, ◌≤◌, All, IsTrue, length, map};
-ghost use Rattle.httparse.specs.Spans.{IsHeaderWithin, header_bytes};
+ghost use Rattle.std.specs.Prelude.{◌≡◌, ◌↔◌, ◌≤◌, All, IsTrue, length};
+ghost use Rattle.httparse.specs.Spans.{IsHeaderWithin};
 ghost use Rattle.status_request.specs.Asked.{AreHere, IsServerNamed, host_values};
-ghost use Rattle.status_request.specs.Request.{IsNamed};
+ghost use Rattle.status_request.specs.Request.{IsNamed, fields_of};
 
 use crate::asked::is_host;
 use crate::authority::names_here;
@@ -16,7 +16,7 @@ use httparse::spans::HeaderSpan;
 /// How many of these fields are Host.
 fn host_count(octets: &[u8], fields: &[HeaderSpan]) -> usize
     requires { All (IsHeaderWithin (length octets.now)) fields.now }
-    ensures count { result ≡ length (host_values (map (header_bytes octets.now) fields.now)) }
+    ensures count { result ≡ length (host_values (fields_of octets.now fields.now)) }
     ensures within { result ≤ length fields.now }
 {
     let Some((first, rest)) = fields.split_first() else {
@@ -33,7 +33,7 @@ fn host_count(octets: &[u8], fields: &[HeaderSpan]) -> usize
 /// Whether each field Host names this server.
 fn are_here(octets: &[u8], fields: &[HeaderSpan], name: &[u8]) -> bool
     requires { All (IsHeaderWithin (length octets.now)) fields.now }
-    ensures { IsTrue result ↔ AreHere name.now (map (header_bytes octets.now) fields.now) }
+    ensures { IsTrue result ↔ AreHere name.now (fields_of octets.now fields.now) }
 {
     let Some((first, rest)) = fields.split_first() else {
         return true;
@@ -46,8 +46,7 @@ fn are_here(octets: &[u8], fields: &[HeaderSpan], name: &[u8]) -> bool
 #[tactic(auto, unfolding(crate::specs::Asked::IsServerNamed))]
 fn is_server_named(octets: &[u8], fields: &[HeaderSpan], target: &[u8], name: &[u8]) -> bool
     requires { All (IsHeaderWithin (length octets.now)) fields.now }
-    ensures { IsTrue result
-        ↔ IsServerNamed name.now target.now (map (header_bytes octets.now) fields.now) }
+    ensures { IsTrue result ↔ IsServerNamed name.now target.now (fields_of octets.now fields.now) }
 {
     match authority(target) {
         Some(authority) => names_here(authority, name),
@@ -65,8 +64,7 @@ pub(crate) fn is_named(
     name: &[u8],
 ) -> bool
     requires { All (IsHeaderWithin (length octets.now)) fields.now }
-    ensures { IsTrue result
-        ↔ IsNamed name.now minor target.now (map (header_bytes octets.now) fields.now) }
+    ensures { IsTrue result ↔ IsNamed name.now minor target.now (fields_of octets.now fields.now) }
 {
     let hosts = host_count(octets, fields);
     (hosts == 1 || hosts == 0 && minor == 0) && is_server_named(octets, fields, target, name)
