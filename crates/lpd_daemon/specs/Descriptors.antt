@@ -1,6 +1,8 @@
 -- How many descriptors a server takes.
-use Rattle.std.specs.Prelude.{ℕ, ◌+◌, ◌*◌, Bool, if◌then◌else◌}
+use Rattle.std.specs.Prelude.{ℕ, ◌+◌, ◌*◌, ◌++◌, Bool, List, codes, if◌then◌else◌}
+use Rattle.std.specs.Fmt.{decimal}
 use Rattle.lpd_daemon.specs.declared.descriptors.Takers.{Takers}
+use Rattle.lpd_daemon.specs.declared.descriptors.TooFew.{TooFew}
 
 -- so many where that is there
 abbrev pub if_there : Bool → ℕ → ℕ
@@ -16,3 +18,7 @@ kept it =
 abbrev pub least_free : Takers → ℕ
 least_free it =
     2 + it.printers + if_there it.are_kept 2 + if_there it.is_archived 1 + if_there it.is_watched 1 + if_there it.is_shown 1
+
+-- what is told where these are too few
+abbrev pub too_few_text : TooFew → List ℕ
+too_few_text it = decimal it.limit ++ (codes " descriptors are too few: it takes " ++ decimal it.least)

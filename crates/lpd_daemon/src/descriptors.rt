@@ -1,8 +1,7 @@
 //! How many descriptors are kept for others than connections that wait, and whether as many are there as a server takes at least.
 
-ghost use Rattle.std.specs.Prelude.{◌≡◌, ◌≤◌, ◌++◌, Some, codes};
-ghost use Rattle.std.specs.Fmt.{decimal};
-ghost use Rattle.lpd_daemon.specs.Descriptors.{kept, least_free};
+ghost use Rattle.std.specs.Prelude.{◌≡◌, ◌≤◌, Some};
+ghost use Rattle.lpd_daemon.specs.Descriptors.{kept, least_free, too_few_text};
 
 use std::alloc::Global;
 use std::fmt;
@@ -100,8 +99,7 @@ pub(crate) struct TooFew {
 }
 
 impl fmt::Display for TooFew {
-    ghost output = { λ it. Some (decimal it.limit ++ (codes " descriptors are too few: it takes "
-        ++ decimal it.least)) };
+    ghost output = { λ it. Some (too_few_text it) };
 
     fn fmt<W: fmt::Write>(&self, f: &mut fmt::Formatter<W>) -> fmt::Result {
         write!(
