@@ -424,6 +424,9 @@ def a_printer_that_moves():
         check(status == 0 and f"not judged 1: run 2 printed to file:{two}\n" in out and out.endswith("printed 1 octets 12\n"), f"{status} {out}{why}")
         status, out, why = room.audit("--printed", f"1@file:{two}={two}")
         check(status == 0 and f"not judged 1: run 1 printed to file:{one}\n" in out and "printed 1 octets 6\n" in out, f"{status} {out}{why}")
+        for number in (0, 9):
+            status, out, why = room.audit("--printed", f"1={one}", "--printed", f"{number}={one}")
+            check(status == 0 and out.endswith(f"printed 1 octets 12\nnot judged {number}: the account has no such printer\n"), f"{status} {out}{why}")
         with open(two, "wb") as file:
             file.write(b"page x")
         status, out, why = room.audit(*both)

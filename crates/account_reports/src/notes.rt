@@ -16,6 +16,8 @@ pub(crate) enum Told {
     Judged(u64),
     /// What it printed can't be read again.
     Unread,
+    /// No head has it.
+    Unknown,
     /// So many octets lie between what a run printed and what the next one did.
     Between(u64),
     /// Its file lost N octets between two runs.
@@ -45,6 +47,7 @@ impl fmt::Display for Note {
         match self.told {
             Told::Judged(octets) => writeln!(f, "printed {printer} octets {octets}"),
             Told::Unread => writeln!(f, "not judged {printer}: it can't be read again"),
+            Told::Unknown => writeln!(f, "not judged {printer}: the account has no such printer"),
             Told::Between(octets) => {
                 writeln!(f, "not judged {printer}: {octets} octets between two runs")
             }

@@ -93,8 +93,15 @@ pub(crate) fn path_of(
 
 /// Whether something is said of the printer of a number.
 pub(crate) fn is_asked(places: &[&str], printer: u32) -> bool {
-    places.iter().any(|text| match said_of(text) {
-        Said::Path(number, _) | Said::At(number, _) => number == printer,
-        Said::Directory(_) => false,
-    })
+    places
+        .iter()
+        .any(|text| asked_printer(text) == Some(printer))
+}
+
+/// The number of the printer of which a text says something. None where it is a directory.
+pub(crate) fn asked_printer(text: &str) -> Option<u32> {
+    match said_of(text) {
+        Said::Path(number, _) | Said::At(number, _) => Some(number),
+        Said::Directory(_) => None,
+    }
 }

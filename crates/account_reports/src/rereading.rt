@@ -6,7 +6,7 @@ ghost use Rattle.program_edge.specs.Places.{IsPlaceText};
 use crate::fault::{Lacks, ReportFault};
 use crate::folders::{FolderReread, JobFile};
 use crate::notes::{Told, put_elsewhere, put_note};
-use crate::places::{is_asked, path_at, path_of};
+use crate::places::{asked_printer, is_asked, path_at, path_of};
 use crate::printers::{PrintedFile, job_numbers};
 use account::Entry;
 use lpd_commands::OctetWrite;
@@ -494,6 +494,23 @@ impl<'r> Rereading<'r> {
         }
     }
 
+    /// Tells of each printer whose place was said, and that the account doesn't have.
+    fn tell_unknown<O: OctetWrite>(
+        &self,
+        alloc: Global,
+        output: &mut O,
+    ) -> Result<(), ReportFault<'r>> {
+        for text in self.places.iter() {
+            match asked_printer(text) {
+                Some(printer) if printer == 0 || printer as usize > self.rereads.len() => {
+                    put_note(alloc, output, printer, Told::Unknown)?;
+                }
+                _ => {}
+            }
+        }
+        Ok(())
+    }
+
     /// The account has ended: for each printer that was read again is told what was judged, and what wasn't.
     ///
     /// `Missing` with the first job of which no file is there, once all that is told.
@@ -512,6 +529,7 @@ impl<'r> Rereading<'r> {
             let reread = &mut resting.printed.reread;
             reread.end(alloc, output, printer.saturating_add(1))?;
         }
+        self.tell_unknown(alloc, output)?;
         self.settle_doubts(alloc, output)?;
         match self.lacks.take() {
             Some(lacks) => Err(lacks),

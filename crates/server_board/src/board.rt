@@ -5,6 +5,7 @@ ghost use Rattle.program_edge.specs.Openings.{IsUnopened};
 ghost use Rattle.program_edge.specs.declared.opening.StartPart.{StartPart};
 ghost use Rattle.program_edge.specs.declared.opening.StartPart.TheVariants.{Status};
 
+use crate::drawn::Drawn;
 use connection_lobby::{Doorway, Listening, Lobby};
 use log::Log;
 use mio::Waker;
@@ -30,6 +31,8 @@ pub struct Board {
     pub due: u64,
     /// The milliseconds from the server's start until the clock was last looked at.
     pub now_ms: u64,
+    /// What was drawn last while many asked.
+    pub(crate) drawn: Option<Drawn>,
 }
 
 /// Who may come to the board, where no proxy is believed whom it comes for, and its name. AllocError where memory for them is refused.
@@ -71,6 +74,7 @@ pub fn open_board<R: Log + Net<Listener = TcpListener, Stream = TcpStream>>(
                 hour: LastHour::new(alloc),
                 due: 0,
                 now_ms: 0,
+                drawn: None,
             };
             Ok(Some((board, waker)))
         }

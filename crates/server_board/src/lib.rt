@@ -2,6 +2,7 @@
 #![tactic(auto)]
 
 mod board;
+mod drawn;
 mod showing;
 mod survey;
 mod surveyor;

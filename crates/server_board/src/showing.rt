@@ -5,6 +5,7 @@
 //! for one of them alone, so those that halt hold up nobody; where there are too many, who has halted longest gives way.
 
 use crate::board::{Board, PLACES};
+use crate::drawn::Drawn;
 use crate::surveyor::Surveyor;
 use connection_lobby::Visit;
 use log::{Log, warn};
@@ -33,6 +34,9 @@ const LOOK_SECONDS: u64 = 60;
 
 /// The pause after the system didn't tell what happened, in milliseconds.
 const PAUSE_MS: u64 = 100;
+
+/// With how many exchanges many are asking: then one response is given to all that ask for the same within a tenth of a second.
+const MANY: usize = 8;
 
 /// What is seen N seconds after the server's start.
 fn look_of(second: u64, pages: Pages, counts: &ServerCounts) -> Look {
@@ -115,26 +119,60 @@ impl<R: Files<File = File> + Clock + Log + Wait, E: HouseLedger> Surveyor<'_, '_
         status_response(alloc, &scene, method, resource)
     }
 
-    /// The response to what was read of a request.
-    fn response_to(&self, board: &Board, reading: RequestReading) -> Result<String, AllocError> {
+    /// The response with a resource of the server where many ask: as it was drawn last, if that is less than a tenth of a second ago.
+    /// AllocError where memory for it is refused.
+    fn draw_for_many(
+        &self,
+        board: &mut Board,
+        method: Method,
+        resource: Resource,
+    ) -> Result<String, AllocError> {
+        let now_ms = board.now_ms;
+        if let Some(drawn) = &board.drawn {
+            if drawn.is_fresh(method, resource, now_ms) {
+                return String::from_str(self.hall.alloc, drawn.response.as_str());
+            }
+        }
+        let response = self.draw(board, method, resource)?;
+        board.drawn = Some(Drawn {
+            method,
+            resource,
+            at_ms: now_ms,
+            response: String::from_str(self.hall.alloc, response.as_str())?,
+        });
+        Ok(response)
+    }
+
+    /// The response to what was read of a request, where so many exchanges are open.
+    fn response_to(
+        &self,
+        board: &mut Board,
+        reading: RequestReading,
+        count: usize,
+    ) -> Result<String, AllocError> {
         match reading {
-            RequestReading::Wanted { method, resource } => match self.draw(
-                board, method, resource,
-            ) {
-                Ok(response) => Ok(response),
-                Err(AllocError) => unavailable_response(self.hall.alloc),
-            },
+            RequestReading::Wanted { method, resource } => {
+                let drawn = if count < MANY {
+                    self.draw(board, method, resource)
+                } else {
+                    self.draw_for_many(board, method, resource)
+                };
+                match drawn {
+                    Ok(response) => Ok(response),
+                    Err(AllocError) => unavailable_response(self.hall.alloc),
+                }
+            }
             RequestReading::Refused(refusal) => refusal_response(self.hall.alloc, refusal),
             RequestReading::More => timeout_response(self.hall.alloc),
         }
     }
 
     /// Takes up the exchange at a place, and answers it once it is known what it asks for.
-    fn serve(&self, board: &Board, exchanges: &mut Exchanges, at: usize) {
+    fn serve(&self, board: &mut Board, exchanges: &mut Exchanges, at: usize) {
         let Some(reading) = exchanges.turn(at, board.name.as_bytes(), board.now_ms) else {
             return;
         };
-        match self.response_to(board, reading) {
+        match self.response_to(board, reading, exchanges.count()) {
             Ok(response) => exchanges.answer(at, response, board.now_ms),
             Err(AllocError) => {
                 exchanges.end(at);
@@ -144,7 +182,7 @@ impl<R: Files<File = File> + Clock + Log + Wait, E: HouseLedger> Surveyor<'_, '_
     }
 
     /// Begins an exchange with a connection, and takes it up. What goes wrong with one peer doesn't concern the next.
-    fn welcome(&self, board: &Board, exchanges: &mut Exchanges, visit: Visit) {
+    fn welcome(&self, board: &mut Board, exchanges: &mut Exchanges, visit: Visit) {
         let Visit { stream, peer, .. } = visit;
         if stream.set_nonblocking(true).is_err() {
             return;
@@ -170,7 +208,7 @@ impl<R: Files<File = File> + Clock + Log + Wait, E: HouseLedger> Surveyor<'_, '_
     }
 
     /// Takes up each exchange, the last first: where one ends, the last takes its place.
-    fn serve_all(&self, board: &Board, exchanges: &mut Exchanges) {
+    fn serve_all(&self, board: &mut Board, exchanges: &mut Exchanges) {
         let count = exchanges.count();
         for passed in 0..MOST_EXCHANGES {
             if passed >= count {
@@ -203,7 +241,7 @@ impl<R: Files<File = File> + Clock + Log + Wait, E: HouseLedger> Surveyor<'_, '_
             }
             self.look(&mut board);
             let has_come = self.welcome_all(&mut board, &mut exchanges);
-            self.serve_all(&board, &mut exchanges);
+            self.serve_all(&mut board, &mut exchanges);
             let is_busy = exchanges.count() > 0;
             if is_busy && !has_come {
                 exchanges.await_turn(board.lobby.descriptor());
