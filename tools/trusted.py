@@ -1,5 +1,6 @@
 #!/usr/bin/env python3
-"""Writes docs/TRUSTED.md: which files of definitions the headline and the lock's fact rest on, in reading order.
+"""Writes docs/TRUSTED.md: which files of definitions README's points 5 to 9 rest on (the headline, the lock's fact, what a printer's worker tells, what is kept, what
+an audit reads), in reading order.
 
     python3 tools/trusted.py            # writes the page
     python3 tools/trusted.py --check    # status 1, and a line that names what differs, where the page is stale
@@ -37,6 +38,25 @@ PARTS = [
         "(`IsLegalSegment`, `HasHeadline`).",
         ["crates/locked_spool/specs/Held.antt", "crates/locked_spool/specs/Segments.antt"],
     ),
+    (
+        "What a printer's worker tells",
+        "What the clauses of `work` (`crates/printer_worker/src/worker.rt`) name beyond that, and of the sinks that a printer on the network and a "
+        "folder have (`SocketSink`, `FolderSink` and the three laws of `crates/printer_sinks`).",
+        ["crates/printer_worker/src/worker.rt", "crates/printer_sinks/src/socket.rt", "crates/printer_sinks/src/folder.rt", "crates/printer_sinks/src/laws.rt"],
+    ),
+    (
+        "What is kept",
+        "What the clauses of `keep`, `serve_kept`, `streams_are_read`, `recover` and `feed_one` name beyond that, and of the traits of a folder, `Folder` "
+        "(`crates/kept_jobs/src/folder.rt`) and `Store` (`crates/job_store/src/store.rt`), which say what a disk has to do.",
+        ["crates/kept_jobs/src/folder.rt", "crates/kept_jobs/src/keeping.rt", "crates/kept_requests/src/serving.rt", "crates/job_streams/src/laws.rt",
+         "crates/job_store/src/store.rt", "crates/job_store/src/recovering.rt", "crates/kept_recovery/src/feeding.rt"],
+    ),
+    (
+        "What an audit reads",
+        "What the clauses of `SegmentAudit::read` (`crates/segment_audit/src/audit.rt`), of `page_matches`, `PrinterTrail::take` and `judge_job` "
+        "(`crates/printed_pages`) name beyond that.",
+        ["crates/segment_audit/src/audit.rt", "crates/printed_pages/src/page.rt", "crates/printed_pages/src/trail.rt", "crates/printed_pages/src/folder.rt"],
+    ),
 ]
 
 HEAD = """\
@@ -44,8 +64,8 @@ HEAD = """\
 
 <!-- Made by tools/trusted.py from the `use` lines; write it anew by `python3 tools/trusted.py`. -->
 
-A proof says that code meets a definition. So whoever relies on the headline, or on what the lock keeps (`docs/PROVED.md` has
-both in words), has to believe three things besides, and can read the second one on this page:
+A proof says that code meets a definition. So whoever relies on the headline, on what the lock keeps (`docs/PROVED.md` has
+both in words), or on README's points 7 to 9, has to believe four things besides, and can read the second one on this page:
 
 1. **The toolchain**: its logic and its prover, its compilers, the crates of its kit that `docs/PROVED.md` names, and the libraries
    that the definitions name: {libraries}.
@@ -55,6 +75,14 @@ both in words), has to believe three things besides, and can read the second one
 3. **What the contracts of the standard library say of files, sockets, threads and the clock.** They don't say which octets come
    or go. That a job's octets are those that its host sent, and that a page which was written is on paper, is no part of any
    statement here.
+4. **A disk and a clock**, of which no contract of the standard library says anything. Each is asked in one place:
+   - *The disk*, in `job_disk` alone, whose files are the trait's: octets that were written and synced (`sync`) are in the file after a crash, as
+     written; a file that was renamed (`publish`) has its old name or its new one after a crash, and the new one once the folder was synced
+     (`sync_names`); what was removed may be there again, and no other file changes by any of that; a file that is read has the octets that it was
+     left with. The last one is looked at: a kept job ends in a digest, and one that doesn't match isn't fed. A sync that fails may have lost what it was for.
+   - *The clock* that counts from the machine's start doesn't go back, and is read or told as unreadable: pauses, patience and silence are counted by
+     it, and no statement here is about time. The time of day is told in the account and the log, and may jump: a segment's end is never told as before its
+     beginning.
 
 A line counts where it is neither blank nor a comment. Paths are below `crates/`, and each file stands after all that it uses.
 """
@@ -101,8 +129,12 @@ def definitions_of(module):
 
 
 def code_of(module):
-    """The file of code that declares a type, and the type's name: `Rattle.CRATE.specs.declared.FILE.TYPE..`."""
+    """The file of code that declares a type, and the type's name: `Rattle.CRATE.specs.declared.FILE.TYPE..`,
+    or without FILE where that is lib.rt."""
     crate, names = module.split(".")[1], module.split(".")[4:]
+    if names[0][0].isupper():
+        # (it stands in the crate's own file)
+        names.insert(0, "lib")
     path = f"crates/{crate}/src/{names[0]}.rt"
     name = "the constants" if names[1] == "TheConstants" else f"`{names[1]}`"
     return path, name

@@ -5,15 +5,17 @@ Each scene is bounded in time, and runs on loopback alone. A line says what was 
 import contextlib
 import os
 import re
+import resource
 import signal
 import socket
+import struct
 import subprocess
 import sys
 import threading
 import time
 
-from client import answer, connect, control, send, together
-from keeping import Room
+from client import answer, connect, control, free_port, send, together
+from keeping import CONFIG, Room
 from scene import CHECKED, PROGRAM, check, main
 
 
@@ -80,19 +82,18 @@ def the_earlier_stop_holds():
 
 
 def rotations_that_are_refused():
-    """A rotation that is refused gives its place back: after many of them, with an account in files, the next that may be done is."""
+    """A rotation that is refused, since a job is held, gives its place back: after many of them, with an account in files, the next that may be done is."""
     with Room() as room:
-        plain = [word for word in room.line() if word != "--keep-room"] + ["--account", f"{room.folder}/account"]
+        # (with --spool a job of a held queue waits in the folder, and no rotation is refused)
+        plain = [word for word in room.line() if word not in ("--keep-room", "--spool", room.kept)] + ["--account", f"{room.folder}/account"]
         room.line = lambda: plain
         room.start()
         room.tell("hold", "lp")
         check(send(room.port, 1, b"x" * 1000) == 0, "a job is taken")
         for number in range(6):
-            # (a held job may wait in the folder alone, and then nothing is in the way)
             told = room.tell("rotate")
-            check("segments of the account wait" not in told, f"the {number + 1}th: {told}")
+            check("rotated" not in told and "segments of the account wait" not in told, f"the {number + 1}th: {told}")
         room.tell("release", "lp")
-        room.await_files(0)
         for number in range(6):
             for _ in range(50):
                 told = room.tell("rotate")
@@ -101,6 +102,24 @@ def rotations_that_are_refused():
                 time.sleep(0.1)
             check("rotated" in told, f"once nothing is held: {told}")
     return "six of each"
+
+
+def who_asked_and_went_gives_place():
+    """More clients than there are places ask for a stop that waits for a job, and go before it is answered: others are heard all the same."""
+    with Room() as room:
+        os.mkfifo(f"{room.folder}/printer-1")
+        room.start()
+        check(send(room.port, 1, b"x" * 300_000) == 0, "a job is taken")
+        for number in range(80):
+            with socket.socket(socket.AF_UNIX) as peer:
+                peer.settimeout(10)
+                peer.connect(f"{room.folder}/control")
+                peer.sendall(b"stop 60\n")
+                # (the line is heard before the end)
+                time.sleep(0.02)
+        told, took = talk(room, b"status\n", False)
+        check(told.endswith(b"end done\n"), told[-80:])
+        return f"answered after {took:.2f} s"
 
 
 def clients_that_end_their_sending():
@@ -117,6 +136,37 @@ def clients_that_end_their_sending():
         check(told.endswith(b"end done\n"), told)
         check(room.server.wait(10) == 0, room.server.returncode)
         return f"a stop after {took:.2f} s"
+
+
+def descriptors_that_come_again():
+    """Clients that come while a server has no descriptor left are told by a line, and served once it has some again, though nobody else comes: at its port, its control socket, and
+    where its status is shown."""
+    status = free_port()
+    with Room("--status", str(status)) as room:
+        room.start()
+        time.sleep(1)
+        count = len(os.listdir(f"/proc/{room.server.pid}/fd"))
+        _, most = resource.prlimit(room.server.pid, resource.RLIMIT_NOFILE)
+        resource.prlimit(room.server.pid, resource.RLIMIT_NOFILE, (count, most))
+        with socket.socket(socket.AF_UNIX) as asked, connect(status) as looked, connect(room.port) as sent:
+            asked.settimeout(15)
+            asked.connect(f"{room.folder}/control")
+            asked.sendall(b"status\n")
+            looked.sendall(b"GET / HTTP/1.1\r\nHost: localhost\r\n\r\n")
+            sent.sendall(b"\x03lp\n")
+            for words in ("control socket: a connection wasn't accepted", "a connection wasn't accepted: Too many open files"):
+                room.await_log(words)
+            time.sleep(1)
+            resource.prlimit(room.server.pid, resource.RLIMIT_NOFILE, (most, most))
+            start = time.monotonic()
+            for peer, wanted in ((asked, b"end done\n"), (looked, b"</html>"), (sent, b"queue lp jobs 0")):
+                told = b""
+                while piece := peer.recv(65536):
+                    told += piece
+                check(wanted in told, f"{wanted}: {told[-200:]}")
+            took = time.monotonic() - start
+        check(took < 5, f"answered after {took:.1f} s")
+        return f"all three within {took:.1f} s"
 
 
 def no_octet_behind_a_stop_now():
@@ -165,26 +215,61 @@ def no_octet_behind_a_stop_now():
     return f"{printed} printed, {lost} told as lost"
 
 
+class Moody:
+    """A printer at a port that resets each connection amid its job, or reads each to its end where it is well."""
+
+    def __init__(self):
+        self.there = socket.socket()
+        self.there.bind(("127.0.0.1", 0))
+        self.there.listen(4)
+        self.place = f"socket://127.0.0.1:{self.there.getsockname()[1]}"
+        self.is_well, self.printed = False, 0
+        threading.Thread(target=self.serve, daemon=True).start()
+
+    def serve(self):
+        while True:
+            peer, _ = self.there.accept()
+            peer.recv(1000)
+            if self.is_well:
+                while peer.recv(1 << 16):
+                    pass
+                self.printed += 1
+            else:
+                time.sleep(0.05)
+                peer.setsockopt(socket.SOL_SOCKET, socket.SO_LINGER, struct.pack("ii", 1, 0))
+            peer.close()
+
+
 def pauses_begin_anew_behind_a_page():
     """With --restart a queue's pause grows from failure to failure, and is as short as at first once a page was printed in between."""
-    with Room("--restart", "1") as room:
-        os.symlink("/dev/full", f"{room.folder}/printer-1")
+    printer = Moody()
+    # (more than the printer's socket and the server's hold, or than it writes until the connection is reset)
+    octets = b"x" * (300_000 if CHECKED else 6_000_000)
+    config = CONFIG.replace("pages = 256", "pages = 4096").replace("limit = 128", "limit = 2000")
+    with Room("--restart", "1", "--printer", f"1={printer.place}", config=config) as room:
         room.start()
 
         def fail(count):
-            """Sends a job that fails, and answers how long it takes until the queue is started again, by the next job's failure."""
+            """Sends a job that fails, and answers how long after the failure before it that is: once the queue was started again."""
             start = time.monotonic()
-            check(send(room.port, count % 1000, b"x") == 0, "a job is taken")
-            room.await_files(count, "failed", 30)
+            check(send(room.port, count, octets) == 0, "a job is taken")
+            room.await_files(count, "failed", 20)
             return time.monotonic() - start
 
         fail(1)
-        waits = [fail(number) for number in (2, 3, 4)]
-        check(waits[2] > 2.5, f"the pauses don't grow: {waits}")
-        os.remove(f"{room.folder}/printer-1")
-        room.kill()
-        # (a printer's file is opened at the start alone: one that is full and then isn't is a pipe)
-        return f"{', '.join(f'{wait:.1f}' for wait in waits)} s"
+        grown = [fail(number) for number in (2, 3)]
+        printer.is_well = True
+        check(send(room.port, 9, octets) == 0, "a job is taken")
+        for _ in range(300):
+            if printer.printed:
+                break
+            time.sleep(0.05)
+        check(printer.printed == 1, "nothing is printed")
+        printer.is_well = False
+        fail(4)
+        anew = fail(5)
+        check(grown[1] > 1.8 and anew < 4, f"pauses of {grown} s, and behind a page {anew} s")
+        return f"{grown[0]:.1f}, {grown[1]:.1f} s, and behind a page {anew:.1f} s"
 
 
 def many_syncs_wake_each():
@@ -208,8 +293,8 @@ def many_syncs_wake_each():
         return f"{took:.1f} s"
 
 
-SCENES = (signals_that_stop, the_earlier_stop_holds, rotations_that_are_refused, clients_that_end_their_sending, no_octet_behind_a_stop_now,
-          pauses_begin_anew_behind_a_page, many_syncs_wake_each)
+SCENES = (signals_that_stop, the_earlier_stop_holds, rotations_that_are_refused, who_asked_and_went_gives_place, clients_that_end_their_sending, descriptors_that_come_again,
+          no_octet_behind_a_stop_now, pauses_begin_anew_behind_a_page, many_syncs_wake_each)
 
 if __name__ == "__main__":
     sys.exit(main(SCENES, __doc__))

@@ -19,6 +19,8 @@ import time
 from client import control, free_port, connect, answer, send
 from scene import PROGRAM, check, main, size
 
+# What is said of a kept job's file that isn't as it was kept.
+CHANGED = "it isn't as it was kept: its octets changed, it lacks some, or it has more"
 KILLS = size("KILLS", 200, 20)
 PAUSE = float(os.environ.get("PAUSE", "0.5"))
 CLIENTS = 8
@@ -299,11 +301,13 @@ def a_job_is_removed():
             while peer.recv(65536):
                 pass
         room.await_files(2)
+        check(not room.files("failed") and len(room.files("*")) == 2, f"it stays: {room.files('*')}")
         room.kill()
         os.remove(f"{room.folder}/printer-1")
         room.start()
         room.await_files(0)
         check(room.printed() == b"1" * 70_000 + b"2" * 70_000, "other octets")
+        check(not room.files("*"), f"files stay: {room.files('*')}")
         return "the other two were printed"
 
 
@@ -319,20 +323,61 @@ def files_that_are_no_jobs():
         (name,) = room.files("job")
         octets = open(f"{room.kept}/{name}", "rb").read()
         os.remove(f"{room.folder}/printer-1")
-        for number, other in ((50, octets.replace(b"hurgwaye 1", b"hurgwaye 2")), (51, octets[:-30]), (52, octets.replace(b"\x02lp", b"\x02gone")),
+        for number, other in ((50, octets.replace(b"hurgwaye 2", b"hurgwaye 3")), (51, octets[:-30]), (52, octets.replace(b"\x02lp", b"\x02gone")),
                               (53, b"nothing"), (54, b"")):
             with open(f"{room.kept}/{number}.job", "wb") as file:
                 file.write(other)
         room.start()
         room.await_files(5)
         check(room.printed() == good, room.printed()[:60])
-        for number in (50, 51, 53, 54):
+        for number in (50, 53, 54):
             room.await_log(f"it isn't known whose the job in file {number} is")
+        room.await_log(f"{room.kept}/51.job: {CHANGED}: the job isn't printed")
         room.await_log("52.job isn't printed, and stays where it is: no queue has the name that it was sent to")
         check(send(room.port, 2, b"more") == 0, "it goes on")
         room.await_files(5)
         check(room.printed() == good + b"more", room.printed()[-60:])
         return "five are told, two are printed"
+
+
+def changed_files_are_not_printed():
+    """Kept jobs of which an octet changed while no server ran, that lack some or have more, or whose own lines were made otherwise, stay and are told of; one as a
+    server of before kept it, with no digest, is printed, and so is one that nobody touched."""
+    with Room() as room:
+        os.mkfifo(f"{room.folder}/printer-1")
+        room.start()
+        good = bytes(range(256)) * 300
+        check(send(room.port, 1, good) == 0, "it is taken")
+        room.kill()
+        (name,) = room.files("job")
+        octets = open(f"{room.kept}/{name}", "rb").read()
+        os.remove(f"{room.folder}/printer-1")
+        at = octets.index(bytes(range(256)))
+
+        def changed(place, new):
+            return octets[:place] + new + octets[place + len(new):]
+
+        job = octets[20:-72]
+        others = {60: changed(at, b"\1"), 61: changed(at + len(good) - 1, b"\0"), 62: octets + b"x", 63: octets[:-72] + b"x" + octets[-72:],
+                  64: changed(octets.index(b"Pann"), b"Pbob"), 65: changed(11, b"00002000"), 66: changed(len(octets) - 2, b"0" if octets[-2:-1] != b"0" else b"1"),
+                  67: octets[:-72], 68: octets[:at + 100] + octets[-72:]}
+        for number, other in others.items():
+            check(other != octets, f"{number} is as it was")
+            with open(f"{room.kept}/{number}.job", "wb") as file:
+                file.write(other)
+        with open(f"{room.kept}/70.job", "wb") as file:
+            file.write(job)
+        room.start()
+        room.await_files(len(others))
+        check(room.printed() == good * 2, f"{len(room.printed())} octets are printed")
+        # (whose the last one is isn't known, since its control file is gone)
+        for number in list(others)[:-1]:
+            room.await_log(f"{number}.job")
+        room.await_log("it isn't known whose the job in file 68 is")
+        check(room.log().count(CHANGED) == len(others) - 1, room.log()[-3000:])
+        check(send(room.port, 2, b"more") == 0, "it goes on")
+        room.await_files(len(others))
+        return f"{len(others)} changed files are told, and stay"
 
 
 def many_kept_jobs():
@@ -447,7 +492,7 @@ def stopped_now_amid_a_job():
         return "it was printed after the next start"
 
 
-SCENES = [killed_once, a_second_server, a_failed_job_is_sent_again, a_job_is_removed, files_that_are_no_jobs, a_full_disk,
+SCENES = [killed_once, a_second_server, a_failed_job_is_sent_again, a_job_is_removed, files_that_are_no_jobs, changed_files_are_not_printed, a_full_disk,
           a_read_only_disk, a_folder_that_goes_away, stopped_now_amid_a_job, many_kept_jobs, killed_at_random]
 
 

@@ -68,6 +68,12 @@ def resets(_, peer):
     peer.close()
 
 
+def in_a_second(_, peer):
+    """Ends it a second later."""
+    time.sleep(1)
+    peer.close()
+
+
 def at_once(_, peer):
     """Ends it as printers do."""
     peer.close()
@@ -123,9 +129,34 @@ def a_printed_job_is_done():
         check(left == [], f"the folder has {left}")
         audit = subprocess.run([PROGRAM, "audit", *sorted(glob.glob(f"{room}/account/segment-*"))], capture_output=True, text=True, timeout=60)
         check(audit.returncode == 0 and f"done {count * len(names)} " in audit.stdout, audit.stdout + audit.stderr)
+        late = log.count("the printer didn't end the connection")
+        check(late == 6, f"{late} of two printers weren't ended in time, of which three each are waited for")
         doubts = log.count("its last octets may not have come")
         check(doubts >= 3, log)
         return f"{count * len(names)} jobs done at {len(names)} printers in {took:.0f} s, {doubts} doubts in the log"
+
+
+def resets_are_ends():
+    """A printer that reset three connections has ended them: the end of the next one is waited for, and the job behind it has its connection after that."""
+    ends = [resets, resets, resets, in_a_second, at_once]
+    came = []
+
+    def end(printer, peer):
+        number = len(printer.jobs)
+        ends[number - 1](printer, peer)
+        came.append((number, time.monotonic()))
+
+    printer = Printer(end)
+    with Server(PROGRAM, spool(), "--keep-room", "--printer", f"1={printer.place}", "--log-jobs") as it:
+        for number in range(1, 4):
+            check(send(it.port, number, OCTETS) == 0, f"job {number} isn't taken")
+            until(10, lambda: len(came) == number)
+        for number in (4, 5):
+            check(send(it.port, number, b"%d" % number * 1_000) == 0, f"job {number} isn't taken")
+        until(15, lambda: len(came) == 5)
+    check([number for number, _ in came] == [1, 2, 3, 4, 5], f"in another order: {came}")
+    check(printer.jobs[3:] == [b"4" * 1_000, b"5" * 1_000], "other octets")
+    return f"the next job's connection ended {came[4][1] - came[3][1]:.2f} s later"
 
 
 def a_removed_job_stops_no_queue():
@@ -150,4 +181,4 @@ def a_removed_job_stops_no_queue():
 
 
 if __name__ == "__main__":
-    sys.exit(main([a_printed_job_is_done, a_removed_job_stops_no_queue], __doc__))
+    sys.exit(main([a_printed_job_is_done, resets_are_ends, a_removed_job_stops_no_queue], __doc__))

@@ -114,6 +114,9 @@ def idle_and_held():
     with served(spool()) as it:
         has(line_of(it, "printer 1 "), "printer 1 lp idle")
         has(page(it), "every printer runs")
+        lacks(page(it), "account rotated")
+        ask(it, "rotate")
+        has(page(it), "account rotated once")
         ask(it, "hold", "lp")
         check(send(it.port, 2, b"x" * 100) == 0, "the job isn't taken")
         line = line_of(it, "job 1 ", "number 002")
@@ -188,10 +191,24 @@ def a_printer_that_is_stopped():
         check(send(it.port, 9, b"x" * 100) == 0, "the second job isn't taken")
         line_of(it, "job 2 ", "number 009", "waits: the printers of its queue are stopped")
         seen = page(it)
-        has(seen, "1 of 1 printers is stopped", "No space left on device", "waits: the printers of its queue are stopped", "job 2 (009)")
+        has(seen, "1 of 1 printers is stopped", "No space left on device", "waits: the printers of its queue are stopped", "job 2 (009)", "Printers that need somebody")
         check(metric(it, 'hurgwaye_printer_stopped{queue="lp",printer="1"}') == 1, "the metric")
         has(it.log(), "failed in ", "No space left on device")
         return "stopped, with its cause, and a job that waits for somebody"
+
+
+def times_of_a_job():
+    """A job arrives from its acceptance until it is whole, and is printed from then on: of one that halts for two seconds amid its octets the first time has these, and the
+    second one hasn't."""
+    with served(spool()) as it:
+        peer = begin(it.port, 1, 11, b"hello ")
+        time.sleep(2)
+        check(finish(peer, 1, b"world") == 0, "the job isn't taken")
+        until(20, "the job is printed", lambda: " done in " in it.log())
+        seen = fetched(it, "/metrics")
+        arriving, printing = (float(re.search(rf"^hurgwaye_job_{name}_seconds_sum ([0-9.]+)$", seen, re.M)[1]) for name in ("arriving", "printing"))
+        check(2 <= arriving < 4 and printing < 1, f"arriving {arriving}, printing {printing}")
+        return f"arriving {arriving} s, printing {printing} s"
 
 
 def jobs_that_arrive():
@@ -361,6 +378,7 @@ SCENES = [
     a_printer_that_is_not_reached,
     a_printer_that_is_stopped,
     jobs_that_arrive,
+    times_of_a_job,
     pages_kept_for_another_job,
     a_next_page_that_is_due,
     a_removed_job_that_ends,

@@ -18,12 +18,22 @@ from keeping import Room
 from scene import check, main
 
 
+CALLS = ("fdatasync", "fsync", "rename", "renameat", "renameat2", "link", "linkat", "unlink", "unlinkat", "write", "sendto")
+# What is looked at of a kept job: syncs and renames that went well, and octets 00 that were sent.
+KEEPING = ((r"fdatasync\(\d+<\S+\.tmp>\) += 0", "tmp"), (r"rename\w*\(.*\.tmp.*\.job.*\) += 0", "rename"),
+           (r"rename\w*\(.*\.failed.*\.job.*\) += 0", "again"), (r"fsync\(\d+<\S+/kept>\) += 0", "folder"),
+           (r"(write|sendto)\(\d+<(socket|TCP).*\"\\0\"", "octet"))
+# And of one that is printed, to a file and to a folder: until its own file goes.
+PRINTING = ((r"fdatasync\(\d+<\S+/printer-1>\) += 0", "printer"), (r"fdatasync\(\d+<\S+/\.job-\d+>\) += 0", "file"),
+            (r"link\w*\(.*/job-\d+.*\) += 0", "link"), (r"fsync\(\d+<\S+/jobs>\) += 0", "folder"), (r"unlink\w*\(.*\d\.job\".*\) += 0", "gone"))
+
+
 class Watched(Room):
     """A room whose server is watched for a while."""
 
     def watching(self, *refused):
         words = [it for call in refused for it in ("-e", f"inject={call}:error=EIO")]
-        return ["strace", "-ff", "-qq", "-y", "-o", f"{self.folder}/trace", "-e", "trace=fdatasync,fsync,rename,renameat,renameat2,write,sendto", *words]
+        return ["strace", "-ff", "-qq", "-y", "-o", f"{self.folder}/trace", "-e", f"trace={','.join(CALLS)}", *words]
 
     @contextlib.contextmanager
     def watch(self, *refused):
@@ -45,10 +55,8 @@ class Watched(Room):
         with open(f"/proc/{self.server.pid}/task/{task}/status") as status:
             return "TracerPid:\t0\n" not in status.read()
 
-    def calls(self, end):
-        """The calls of a thread that named a file with this end, in their order: syncs and renames that went well, and octets 00 that were sent."""
-        kinds = ((r"fdatasync\(\d+<\S+\.tmp>\) += 0", "tmp"), (r"rename\w*\(.*\.tmp.*\.job.*\) += 0", "rename"),
-                 (r"rename\w*\(.*\.failed.*\.job.*\) += 0", "again"), (r"fsync\(\d+<\S+/kept>\) += 0", "folder"), (r"(write|sendto)\(\d+<(socket|TCP).*\"\\0\"", "octet"))
+    def calls(self, end, kinds=KEEPING):
+        """The calls of a thread that named a file with this end, in their order, as far as they are of these kinds."""
         for path in glob.glob(f"{self.folder}/trace.*"):
             with open(path) as file:
                 lines = file.readlines()
@@ -93,6 +101,46 @@ def a_start_syncs_the_folder():
         calls = room.calls("/kept>")
         check(calls == ["folder"], calls)
         return "folder"
+
+
+def a_new_folder_s_own_name_is_synced():
+    """A folder that a start makes is there after a crash, so the one above it is synced; before the next start's sessions it isn't."""
+    with Watched() as room:
+        plain = room.line()
+        room.line = lambda: [*room.watching(), *plain]
+        seen = []
+        for _ in range(2):
+            room.start()
+            room.tell("stop", "now")
+            room.server.wait(20)
+            traces = glob.glob(f"{room.folder}/trace.*")
+            lines = [line for path in traces for line in open(path)]
+            seen.append(sum(re.match(rf"fsync\(\d+<{re.escape(os.path.realpath(room.folder))}>\) += 0", line) is not None for line in lines))
+            for path in traces:
+                os.remove(path)
+        check(seen == [1, 0], seen)
+        return f"{seen[0]} sync of the folder above"
+
+
+def what_is_printed_is_synced_before_the_job_goes():
+    """A kept job's file goes once what was printed of it is on the disk: in the printer's file, or in a file of its own, whose name is there too."""
+    with Watched() as room:
+        jobs = f"{room.folder}/jobs"
+        os.mkdir(jobs)
+        room.words = ("--printer", f"plotter=folder:{jobs}", "--printer", f"1=file:{room.folder}/printer-1")
+        room.start()
+        seen = []
+        for number, (queue, wanted) in enumerate((("lp", ["printer", "gone"]), ("plotter", ["file", "link", "folder", "gone"])), 1):
+            with room.watch():
+                check(send(room.port, number, b"printed", queue) == 0, "it is taken")
+                room.await_files(0)
+                time.sleep(0.3)
+            calls = room.calls("unlink", PRINTING)
+            check(calls == wanted, f"{queue}: {calls}")
+            seen += calls
+            for path in glob.glob(f"{room.folder}/trace.*"):
+                os.remove(path)
+        return ", ".join(seen)
 
 
 def a_job_that_is_sent_again_is_synced():
@@ -164,5 +212,6 @@ def a_segment_s_sync_fails():
 if __name__ == "__main__":
     if not shutil.which("strace"):
         raise SystemExit("strace isn't there")
-    sys.exit(main([a_job_is_synced_before_it_is_acknowledged, a_start_syncs_the_folder, a_job_that_is_sent_again_is_synced, a_file_s_sync_fails,
+    sys.exit(main([a_job_is_synced_before_it_is_acknowledged, a_start_syncs_the_folder, a_new_folder_s_own_name_is_synced,
+                   what_is_printed_is_synced_before_the_job_goes, a_job_that_is_sent_again_is_synced, a_file_s_sync_fails,
                    the_folder_s_sync_fails, a_segment_is_synced, a_segment_s_sync_fails], __doc__))

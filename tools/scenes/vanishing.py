@@ -102,6 +102,7 @@ def a_printer_is_gone_amid_a_job():
         until(2, lambda: os.path.exists(it.path(2)) and os.path.getsize(it.path(2)) == 100_000)
         until(8, lambda: stopped(it) == 1)
         took = time.monotonic() - start
+        check(took > 2, f"failed {took:.1f} s after the link went down")
         log = it.log()
         check(log.count("printer 1: job 1") == 1, log)
         link("up")

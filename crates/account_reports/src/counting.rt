@@ -1,6 +1,6 @@
 //! What was used, as an account tells it.
 
-ghost use Rattle.std.specs.Prelude.{◌≡◌, ◌≤◌, ◌⊎◌, ◌^◌};
+ghost use Rattle.std.specs.Prelude.{◌≡◌, ◌≤◌, ◌⊎◌, ◌^◌, ◌&&◌, ◌==◌, not};
 ghost use Rattle.segment_text.specs.Streams.{HasReadAtMost};
 
 use crate::auditing::ended;
@@ -114,7 +114,10 @@ impl<'a> TakeLines<'a> for Counting<'a> {
 }
 
 /// Whether anything counts.
-fn tells(totals: &Totals) -> bool {
+fn tells(totals: &Totals) -> bool
+    ensures { result
+        ≡ not (totals.now.jobs == 0 && (totals.now.sent == 0 && totals.now.printed == 0)) }
+{
     totals.jobs != 0 || totals.sent != 0 || totals.printed != 0
 }
 

@@ -1,7 +1,11 @@
 //! When connections are accepted.
 
-ghost use Rattle.std.specs.Prelude.{◌≡◌};
+ghost use Rattle.std.specs.Prelude.{◌≡◌, ◌+◌, ◌-◌, ◌^◌, min};
 ghost use Rattle.control_socket.specs.Accepting.{due_at, is_due};
+ghost use Rattle.control_socket.specs.declared.accepting.Accepting.TheVariants.{From};
+
+/// How long none is accepted once one couldn't be, in milliseconds: the system may have no descriptor for it.
+const PAUSE_MS: u64 = 100;
 
 /// When connections are accepted.
 #[derive(Clone, Copy)]
@@ -15,6 +19,13 @@ pub(crate) enum Accepting {
 }
 
 impl Accepting {
+    /// When they are accepted again once one couldn't be, at this millisecond.
+    pub(crate) fn after_failure(now: u64) -> Accepting
+        ensures { result ≡ From (min (2 ^ 64 - 1) (now + 100)) }
+    {
+        Accepting::From(now.saturating_add(PAUSE_MS))
+    }
+
     /// The millisecond from which on connections are accepted; None where the system tells when.
     pub(crate) fn due_at(self, has_room: bool, now: u64) -> Option<u64>
         ensures { result ≡ due_at self has_room now }

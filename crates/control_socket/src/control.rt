@@ -34,9 +34,6 @@ const WAKER: Token = Token(usize::MAX - 1);
 /// How many events are looked at at once.
 const EVENTS: usize = 256;
 
-/// The milliseconds until the next try where a connection couldn't be accepted.
-const ACCEPT_PAUSE_MS: u64 = 100;
-
 /// How long the end waits for the lines of those who have connected, in milliseconds.
 const HEARING_MS: u64 = 200;
 
@@ -185,7 +182,7 @@ impl ControlSocket {
             };
             if let Err(error) = accepted {
                 warn!(rt; "control socket: a connection wasn't accepted: {error}");
-                self.accepting = Accepting::From(now.saturating_add(ACCEPT_PAUSE_MS));
+                self.accepting = Accepting::after_failure(now);
                 return;
             }
         }

@@ -1,3 +1,5 @@
 pub mod FileNumbers
 pub mod HeldLines
 pub mod Syncs
+pub mod Ends
+pub mod Frame

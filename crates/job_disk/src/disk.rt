@@ -1,5 +1,8 @@
 //! A folder of jobs, which the threads of a server share.
 
+ghost use Rattle.std.specs.Prelude.{◌≡◌};
+ghost use Rattle.job_disk.specs.Ends.{stage_after};
+
 use crate::fault::DiskFault;
 use crate::jobs::FolderJobs;
 use crate::lines::{FileRemoval, HeldLines};
@@ -16,12 +19,34 @@ use std::{fs, io};
 /// What is said of what stands in the place of a file and is none.
 pub(crate) const NO_FILE: &str = "it is no file";
 
+/// What there is room for in memory, of a folder's jobs, and how large their pages are.
+#[derive(Clone, Copy, Debug, PartialEq, Eq)]
+pub struct DiskRoom {
+    /// How many jobs may be passed on and not have ended.
+    pub jobs: usize,
+    pub queues: usize,
+    /// How many octets a page has.
+    pub page_size: u32,
+}
+
+/// What becomes of the whole file of a job that ended so: the stage at which it stays. None where it goes.
+fn stage_after(end: JobEnd) -> Option<FileStage>
+    ensures { result ≡ stage_after end }
+{
+    match end {
+        JobEnd::Done | JobEnd::Removed => None,
+        JobEnd::Failed => Some(FileStage::Failed),
+    }
+}
+
 /// A folder of jobs, which sessions, printers and whoever feeds its jobs share. One server has it at a time.
 #[derive(Drop)]
 pub struct Disk<'a, R> {
     rt: &'a R,
     pub(crate) alloc: Global,
     path: &'a str,
+    /// How many octets a page has of the jobs that come.
+    pub(crate) page_size: u32,
     folder: File,
     // Held while the server has the folder.
     _hold: FolderHold,
@@ -31,8 +56,7 @@ pub struct Disk<'a, R> {
 }
 
 impl<'a, R: Files<File = File> + Wait> Disk<'a, R> {
-    /// The folder at this path, which is made where nothing is there, for this many queues and with room in memory for this many jobs that
-    /// are passed on and haven't ended.
+    /// The folder at this path, which is made where nothing is there, with such room.
     ///
     /// # Errors
     ///
@@ -41,18 +65,17 @@ impl<'a, R: Files<File = File> + Wait> Disk<'a, R> {
         rt: &'a R,
         alloc: Global,
         path: &'a str,
-        jobs: usize,
-        queues: usize,
+        room: DiskRoom,
     ) -> Result<Disk<'a, R>, FolderError> {
         let hold = server_folder::take(rt, alloc, FolderUse::Jobs, path)?;
         let names = names_in(rt, alloc, path)?;
-        let standing = FolderJobs::new(alloc, names.as_slice(), jobs, queues).map_err(
-            io::Error::from,
-        )?;
+        let standing = FolderJobs::new(alloc, names.as_slice(), room.jobs, room.queues);
+        let standing = standing.map_err(io::Error::from)?;
         Ok(Disk {
             rt,
             alloc,
             path,
+            page_size: room.page_size,
             folder: File::open(rt, path)?,
             _hold: hold,
             standing: Mutex::new(standing),
@@ -183,9 +206,9 @@ impl<'a, R: Files<File = File> + Wait> Disk<'a, R> {
     fn act(&self, number: u64, end: JobEnd) -> Result<(), DiskFault<'a>> {
         let stage = FileStage::Whole;
         let name = KeptFileName { number, stage };
-        let done = match end {
-            JobEnd::Done | JobEnd::Removed => self.remove(name),
-            JobEnd::Failed => self.rename(name, FileStage::Failed),
+        let done = match stage_after(end) {
+            None => self.remove(name),
+            Some(stage) => self.rename(name, stage),
         };
         if let Err(cause) = done {
             return Err(self.fault_at(name, cause));

@@ -5,19 +5,27 @@ ghost use Rattle.kept_jobs.specs.Folder.{HasCause};
 
 use crate::disk::Disk;
 use crate::fault::DiskFault;
+use crate::frame::{FileDigest, write_header};
 use job_files::{FileStage, KeptFileName};
 use kept_jobs::{Folder, KeepError};
 use std::fs::{File, Files};
-use std::io;
 use std::io::Write;
 use std::sync::Wait;
+use std::{io, mem};
+
+/// A temporary file, and the digest of what was appended to it.
+#[derive(Drop)]
+struct TemporaryFile {
+    file: File,
+    digest: FileDigest,
+}
 
 /// What is in hand.
 #[derive(Drop)]
 enum InHand {
     Nothing,
     /// A temporary file, which octets are appended to.
-    Temporary(File),
+    Temporary(TemporaryFile),
     /// A whole file.
     Whole,
 }
@@ -92,22 +100,51 @@ impl<'a, R: Files<File = File> + Wait> DiskFolder<'a, R> {
         self.in_hand = InHand::Nothing;
         self.number = self.disk.number(self.seat)?;
         let file = self.disk.create(self.name(FileStage::Temporary))?;
-        self.in_hand = InHand::Temporary(file);
-        Ok(())
+        let page_size = self.disk.page_size;
+        let digest = FileDigest::new(page_size);
+        self.in_hand = InHand::Temporary(TemporaryFile { file, digest });
+        self.write(&write_header(page_size))
     }
 
-    fn append_octets(&mut self, octets: &[u8]) -> io::Result<()>
+    /// Writes octets to the temporary file.
+    fn write(&mut self, octets: &[u8]) -> io::Result<()>
         ensures { self.new.faults ≡ self.old.faults }
     {
         match &mut self.in_hand {
-            InHand::Temporary(file) => file.write_all(octets),
+            InHand::Temporary(temporary) => temporary.file.write_all(octets),
             InHand::Nothing | InHand::Whole => Err(io::ErrorKind::NotFound.into()),
         }
     }
 
-    fn sync_file(&self) -> io::Result<()> {
+    /// Writes octets of the job, of a page with its SHA-256.
+    fn append_octets(&mut self, octets: &[u8], digest: Option<[u8; 32]>) -> io::Result<()>
+        ensures { self.new.faults ≡ self.old.faults }
+    {
+        self.write(octets)?;
+        if let InHand::Temporary(temporary) = &mut self.in_hand {
+            match &digest {
+                Some(digest) => temporary.digest.take(digest),
+                None => temporary.digest.take(octets),
+            }
+        }
+        Ok(())
+    }
+
+    /// Writes the line behind the job, and has the file on the disk.
+    fn sync_file(&mut self) -> io::Result<()>
+        ensures { self.new.faults ≡ self.old.faults }
+    {
+        let InHand::Temporary(temporary) = mem::replace(&mut self.in_hand, InHand::Nothing) else {
+            return Err(io::ErrorKind::NotFound.into());
+        };
+        let TemporaryFile { file, digest } = temporary;
+        let trailer = digest.trailer(self.disk.alloc);
+        // The digest is used up, and nothing is appended any more.
+        let digest = FileDigest::new(self.disk.page_size);
+        self.in_hand = InHand::Temporary(TemporaryFile { file, digest });
+        self.write(trailer?.as_bytes())?;
         match &self.in_hand {
-            InHand::Temporary(file) => file.sync_data(),
+            InHand::Temporary(temporary) => temporary.file.sync_data(),
             InHand::Nothing | InHand::Whole => Err(io::ErrorKind::NotFound.into()),
         }
     }
@@ -145,8 +182,8 @@ impl<R: Files<File = File> + Wait> Folder for DiskFolder<'_, R> {
         self.checked(Some(self.name(FileStage::Temporary)), answer)
     }
 
-    fn append(&mut self, octets: &[u8]) -> Result<(), KeepError> {
-        let answer = self.append_octets(octets);
+    fn append(&mut self, octets: &[u8], digest: Option<[u8; 32]>) -> Result<(), KeepError> {
+        let answer = self.append_octets(octets, digest);
         self.checked(Some(self.name(FileStage::Temporary)), answer)
     }
 

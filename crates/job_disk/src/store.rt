@@ -2,6 +2,7 @@
 
 use crate::disk::Disk;
 use crate::fault::DiskFault;
+use crate::kept_file::KeptFile;
 use job_files::{FileStage, KeptFileName};
 use std::alloc::Global;
 use std::fs::{File, Files};
@@ -40,27 +41,39 @@ impl<'a, R: Files<File = File> + Wait> DiskStore<'a, R> {
         self.at_stage(alloc, FileStage::Failed)
     }
 
-    /// The whole file of this number, to be read from its head on. An error where it can't be opened.
-    pub fn open_job(&self, number: u64) -> Result<File, DiskFault<'a>> {
+    /// The file of a stage of this number, to be read from its job's head on.
+    fn open_at(&self, number: u64, stage: FileStage) -> Result<KeptFile, DiskFault<'a>> {
+        let name = KeptFileName { number, stage };
+        self.disk
+            .open_file(name)
+            .and_then(KeptFile::new)
+            .map_err(|cause| self.disk.fault_at(name, cause))
+    }
+
+    /// The whole file of this number, to be read from its job's head on. An error where it can't be opened, or lacks its last line.
+    pub fn open_job(&self, number: u64) -> Result<KeptFile, DiskFault<'a>> {
+        self.open_at(number, FileStage::Whole)
+    }
+
+    /// The same, once it was read whole: an error too where it isn't as it was kept.
+    pub fn open_unchanged(&self, number: u64) -> Result<KeptFile, DiskFault<'a>> {
         let stage = FileStage::Whole;
+        let mut file = self.open_at(number, stage)?;
         let name = KeptFileName { number, stage };
-        self.disk
-            .open_file(name)
-            .map_err(|cause| self.disk.fault_at(name, cause))
+        match file.check(self.disk.alloc) {
+            Ok(()) => Ok(file),
+            Err(cause) => Err(self.disk.fault_at(name, cause)),
+        }
     }
 
-    /// The file of this number of a job that has failed, to be read from its head on. An error where it can't be opened.
-    pub fn open_failed(&self, number: u64) -> Result<File, DiskFault<'a>> {
-        let stage = FileStage::Failed;
-        let name = KeptFileName { number, stage };
-        self.disk
-            .open_file(name)
-            .map_err(|cause| self.disk.fault_at(name, cause))
+    /// The file of this number of a job that has failed, to be read from its job's head on. An error as for `open_job`.
+    pub fn open_failed(&self, number: u64) -> Result<KeptFile, DiskFault<'a>> {
+        self.open_at(number, FileStage::Failed)
     }
 
-    /// The file of this number of a job that is whole or has failed, to be read from its head on. An error where there is neither, or it
-    /// can't be opened.
-    pub fn open_kept(&self, number: u64) -> Result<File, DiskFault<'a>> {
+    /// The file of this number of a job that is whole or has failed, to be read from its job's head on. An error where there is neither, or as
+    /// for `open_job`.
+    pub fn open_kept(&self, number: u64) -> Result<KeptFile, DiskFault<'a>> {
         let whole = self.open_job(number);
         if whole.is_ok() {
             return whole;

@@ -7,7 +7,7 @@ ghost use Rattle.lpd_values.specs.Name.{is_control_name, number_of};
 ghost use Rattle.lpd_commands.specs.Written.{command_has_line};
 ghost use Rattle.lpd_commands.specs.declared.command.Command.TheVariants.{Receive};
 ghost use Rattle.control_file.specs.View.{contents};
-ghost use Rattle.kept_jobs.specs.Folder.{GoesOn, IsNever, OldOrNone, OrNone, SamePassed};
+ghost use Rattle.kept_jobs.specs.Folder.{Empties, GoesOn, IsNever, OldOrNone, OrNone, SamePassed};
 ghost use Rattle.kept_jobs.specs.Kept.{Leaves, Passes};
 ghost use Rattle.job_streams.specs.Stream.{Coming, control_name, is_whole, stream};
 ghost use Rattle.job_streams.specs.Coming.{new_job, with_control, with_end, with_file, with_octets};
@@ -135,8 +135,8 @@ impl<F: Folder> Hand<F> {
         let queue = Octets::copy_of(self.alloc, queue)?;
         let line = write_command(self.alloc, &Command::Receive { queue })?;
         begin(&mut self.folder)?;
-        append(&mut self.folder, &write_head(sender))?;
-        append(&mut self.folder, line.as_slice())?;
+        append(&mut self.folder, &write_head(sender), None)?;
+        append(&mut self.folder, line.as_slice(), None)?;
         Ok(())
     }
 
@@ -170,7 +170,7 @@ impl<F: Folder> Hand<F> {
     {
         self.known.begin_file(name, count)?;
         let line = write_sub(self.alloc, &Sub::DataFile { count, name })?;
-        append(&mut self.folder, line.as_slice())?;
+        append(&mut self.folder, line.as_slice(), None)?;
         Ok(())
     }
 
@@ -198,7 +198,7 @@ impl<F: Folder> Hand<F> {
     }
 
     /// Writes octets of the data file. An error where they can't be kept.
-    fn put_octets(&mut self, octets: &[u8]) -> Result<(), Cause>
+    fn put_octets(&mut self, octets: &[u8], digest: Option<[u8; 32]>) -> Result<(), Cause>
         ensures stands { OnOk result ((job : Coming) → Stands F.seen F.may_leave self.old job
             → Stands F.seen F.may_leave self.new (with_octets octets.now job)) }
         ensures stage { self.new.stage ≡ self.old.stage }
@@ -209,12 +209,12 @@ impl<F: Folder> Hand<F> {
         ensures passed { SamePassed (F.seen self.old.folder) (F.seen self.new.folder) }
     {
         self.known.put(octets.len() as u64)?;
-        append(&mut self.folder, octets)?;
+        append(&mut self.folder, octets, digest)?;
         Ok(())
     }
 
-    /// Octets of the data file have come.
-    pub fn put(&mut self, octets: &[u8])
+    /// Octets of the data file have come, with their SHA-256 where they are a page.
+    pub fn put(&mut self, octets: &[u8], digest: Option<[u8; 32]>)
         ensures follows { (job : Option Coming) → Follows F.seen F.may_leave self.old job
             → Follows F.seen F.may_leave self.new (at_job (with_octets octets.now) job) }
         ensures blame { Blames F.faults self.old self.new }
@@ -226,7 +226,7 @@ impl<F: Folder> Hand<F> {
         match self.stage {
             HandStage::Idle => {}
             HandStage::Coming => {
-                if let Err(cause) = self.put_octets(octets) {
+                if let Err(cause) = self.put_octets(octets, digest) {
                     self.stage = HandStage::Broken(cause);
                 }
             }
@@ -247,7 +247,7 @@ impl<F: Folder> Hand<F> {
         ensures passed { SamePassed (F.seen self.old.folder) (F.seen self.new.folder) }
     {
         self.known.end_file()?;
-        append(&mut self.folder, &[0])?;
+        append(&mut self.folder, &[0], None)?;
         Ok(())
     }
 
@@ -295,9 +295,9 @@ impl<F: Folder> Hand<F> {
         self.known.control(self.alloc, control)?;
         let count = count as u64;
         let line = write_sub(self.alloc, &Sub::ControlFile { count, name })?;
-        append(&mut self.folder, line.as_slice())?;
-        append(&mut self.folder, text.as_slice())?;
-        append(&mut self.folder, &[0])?;
+        append(&mut self.folder, line.as_slice(), None)?;
+        append(&mut self.folder, text.as_slice(), None)?;
+        append(&mut self.folder, &[0], None)?;
         Ok(())
     }
 
@@ -421,6 +421,8 @@ impl<F: Folder> Hand<F> {
     /// Takes away what is in the folder of the job in hand, which isn't to be kept for this cause.
     pub fn fail(&mut self, cause: Cause)
         ensures broken { self.new.stage ≡ stage.Broken cause }
+        ensures emptied { F.faults self.new.folder ≡ F.faults self.old.folder
+            → Empties (F.seen self.old.folder) (F.seen self.new.folder) }
         ensures crash { OrNone (F.may_leave self.old.folder) (F.may_leave self.new.folder) }
         ensures moments { GoesOn F.moment F.left_since F.may_lack self.old.folder self.new.folder
             (OldOrNone (F.may_leave self.old.folder)) }
@@ -433,6 +435,8 @@ impl<F: Folder> Hand<F> {
     /// The job in hand has ended before it was whole.
     pub fn let_go(&mut self)
         ensures idle { self.new.stage ≡ stage.Idle }
+        ensures emptied { F.faults self.new.folder ≡ F.faults self.old.folder
+            → Empties (F.seen self.old.folder) (F.seen self.new.folder) }
         ensures crash { OrNone (F.may_leave self.old.folder) (F.may_leave self.new.folder) }
         ensures moments { GoesOn F.moment F.left_since F.may_lack self.old.folder self.new.folder
             (OldOrNone (F.may_leave self.old.folder)) }

@@ -25,6 +25,10 @@ abbrev pub octets_of : Option (List ℕ) → List ℕ
 octets_of (Some octets) = octets
 octets_of None = []
 
+-- nothing is in hand any more
+abbrev pub Empties : (old new : Option Seen) → Type 0
+Empties = Leads (λ old new. new ≡ record old { partial = None; whole = None })
+
 -- nothing was passed on or left
 abbrev pub SamePassed : (old new : Option Seen) → Type 0
 SamePassed = Leads (λ old new. new.passed ≡ old.passed)

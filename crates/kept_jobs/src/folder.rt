@@ -2,7 +2,7 @@
 
 ghost use Rattle.std.specs.Prelude.{◌≡◌, ◌⊎◌, ◌≤◌, ◌++◌, [], List, ℕ, Option, None, Some, OnOk, is_some};
 ghost use Rattle.kept_jobs.specs.declared.folder.KeepError.TheVariants.{Memory};
-ghost use Rattle.kept_jobs.specs.Folder.{Elapses, HasCause, IsNever, IsSeen, LacksNoMore, Leads, NoMore, OrNone, SamePassed, SomeOf, octets_of};
+ghost use Rattle.kept_jobs.specs.Folder.{Elapses, Empties, HasCause, IsNever, IsSeen, LacksNoMore, Leads, NoMore, OrNone, SamePassed, SomeOf, octets_of};
 ghost use Rattle.kept_jobs.specs.Kept.{IsKept, Leaves, Passes};
 
 use std::alloc::{AllocError, AllocFailed};
@@ -76,8 +76,9 @@ pub trait Folder {
         ensures cause { HasCause (faults self.old) (faults self.new) result };
 
     /// Writes octets at the end of the temporary file. Until a sync, a crash may leave any octets in
-    /// it.
-    fn append(&mut self, octets: &[u8]) -> Result<(), KeepError>
+    /// it. Where they are those of a page, its SHA-256 comes with them, so that a folder which is to
+    /// notice octets that change in it needn't make one.
+    fn append(&mut self, octets: &[u8], digest: Option<[u8; 32]>) -> Result<(), KeepError>
         ensures written { OnOk result (Leads
             (λ old new. new ≡ record old { partial = Some (octets_of old.partial ++ octets.now) })
             (seen self.old) (seen self.new)) }
@@ -149,6 +150,7 @@ pub trait Folder {
 
     /// Takes away what is in hand, if it can. After a crash a job that was whole may come back.
     fn discard(&mut self)
+        ensures emptied { faults self.new ≡ faults self.old → Empties (seen self.old) (seen self.new) }
         ensures passed { SamePassed (seen self.old) (seen self.new) }
         ensures crash { OrNone (may_leave self.old) (may_leave self.new) }
         ensures time { Elapses (moment self.old) (moment self.new) (left_since self.old)

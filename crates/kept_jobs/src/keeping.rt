@@ -19,8 +19,12 @@ pub fn begin<F: Folder>(folder: &mut F) -> Result<(), KeepError>
     folder.create()
 }
 
-/// Writes octets of the job in hand.
-pub fn append<F: Folder>(folder: &mut F, octets: &[u8]) -> Result<(), KeepError>
+/// Writes octets of the job in hand: those of a page with its SHA-256.
+pub fn append<F: Folder>(
+    folder: &mut F,
+    octets: &[u8],
+    digest: Option<[u8; 32]>,
+) -> Result<(), KeepError>
     ensures in_hand { OnOk result ((before : List ℕ)
         → IsInHand (F.seen folder.old) (F.may_leave folder.old) before
         → IsInHand (F.seen folder.new) (F.may_leave folder.new) (before ++ octets.now)) }
@@ -31,7 +35,7 @@ pub fn append<F: Folder>(folder: &mut F, octets: &[u8]) -> Result<(), KeepError>
     ensures passed { SamePassed (F.seen folder.old) (F.seen folder.new) }
     ensures cause { HasCause (F.faults folder.old) (F.faults folder.new) result }
 {
-    folder.append(octets)
+    folder.append(octets, digest)
 }
 
 /// Keeps the job in hand, whose octets are all in its temporary file. At `Ok` each crash leaves it with

@@ -48,7 +48,7 @@ impl<Q: Parks, F: Folder> Requests for Keeping<Q, F> {
     }
 
     fn put(&mut self, job: u64, page: FilledPage) -> Result<(), ReturnedPage> {
-        self.hand.put(page.bytes());
+        self.hand.put(page.bytes(), Some(page.digest()));
         let answer = self.inner.put(job, page);
         if answer.is_err() {
             self.hand.fail(Cause::Refused);

@@ -196,3 +196,12 @@ created octets before now was whole none nothing e =
     let empty : octets_in whole ≡ None = ap octets_in nothing in
     let same = end_passed before now was e in
     rw (partial, empty, same) refl
+
+-- nothing is in hand any more
+pub emptied : (before now : List GoneFile) (was partial whole : Option DiskFile) → partial ≡ None → whole ≡ None → now ≡ gone_with Discarded was before →
+    ◌≡◌ {A = Seen} (record { partial = octets_in partial; whole = octets_in whole; passed = passed_in now }) (record { partial = None; whole = None; passed = passed_in before })
+emptied before now was partial whole none nothing e =
+    let first : octets_in partial ≡ None = ap octets_in none in
+    let empty : octets_in whole ≡ None = ap octets_in nothing in
+    let same = end_passed before now was e in
+    rw (first, empty, same) refl

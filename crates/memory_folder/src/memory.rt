@@ -176,7 +176,7 @@ impl Folder for MemoryFolder {
         Ok(())
     }
 
-    fn append(&mut self, octets: &[u8]) -> Result<(), KeepError> {
+    fn append(&mut self, octets: &[u8], _digest: Option<[u8; 32]>) -> Result<(), KeepError> {
         step(&mut self.calls, &mut self.faults, true)?;
         write(self.alloc, &mut self.partial, octets)?;
         Ok(())
@@ -215,8 +215,9 @@ impl Folder for MemoryFolder {
     }
 
     fn discard(&mut self) {
-        if step(&mut self.calls, &mut self.faults, true).is_ok() {
-            self.empty(FileEnd::Discarded);
+        match step(&mut self.calls, &mut self.faults, true) {
+            Ok(()) | Err(KeepError::Memory) => self.empty(FileEnd::Discarded),
+            Err(KeepError::Failed) => {}
         }
     }
 

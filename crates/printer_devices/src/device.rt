@@ -92,8 +92,7 @@ impl<Q: Errand, D: Dial + Causes + Drop, P: Pause + Drop, F: PrinterFolder + Cau
             Device::File(file) if is_done => file.sync(),
             Device::File(_) => Ok(()),
             Device::Socket(socket) => {
-                // The dial has told of an end that leaves a doubt.
-                let _ = socket.leave();
+                socket.leave();
                 Ok(())
             }
             Device::Folder(folder) => folder.leave(is_done).or(Err(DeviceFault)),

@@ -26,8 +26,8 @@ pub trait Dial {
         ensures err { OnErr result (connections self.new ≡ connections self.old) };
 
     /// Ends the newest connection: says that nothing more is sent, and reads and drops what the printer still sends, for a
-    /// time. Ok where the printer ended it too.
-    fn hang_up(&mut self) -> Result<(), ConnectionFault>
+    /// time. Whoever opens connections tells by itself of an end that leaves a doubt.
+    fn hang_up(&mut self)
         ensures { connections self.new ≡ connections self.old };
 }
 

@@ -112,8 +112,7 @@ impl Dial for MemoryDial {
         Ok(count)
     }
 
-    fn hang_up(&mut self) -> Result<(), ConnectionFault> {
+    fn hang_up(&mut self) {
         self.is_open = false;
-        Ok(())
     }
 }

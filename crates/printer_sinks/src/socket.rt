@@ -37,7 +37,7 @@ fn try_once<D: Dial>(dial: &mut D, job: u64, octets: &[u8]) -> usize
     }
     match dial.write(octets) {
         Ok(0) | Err(_) => {
-            let _ = dial.hang_up();
+            dial.hang_up();
             0
         }
         Ok(count) => count,
@@ -85,7 +85,7 @@ fn go_on<D: Dial>(dial: &mut D, octets: &[u8]) -> usize
 {
     let count = write_on(dial, octets);
     if count < octets.len() {
-        let _ = dial.hang_up();
+        dial.hang_up();
     }
     count
 }
@@ -140,7 +140,7 @@ fn come_to<D: Dial>(dial: &mut D, stage: SinkStage, job: u64) -> SinkStage
 {
     match stage {
         SinkStage::Sending(other) if other != job => {
-            let _ = dial.hang_up();
+            dial.hang_up();
             SinkStage::Idle
         }
         SinkStage::Lost(other) if other != job => SinkStage::Idle,
@@ -228,17 +228,16 @@ impl<D: Dial + Drop, P: Pause + Drop> SocketSink<D, P> {
         }
     }
 
-    /// Leaves the job that it is at, and ends its connection. ConnectionFault where the printer didn't end it too, or it
-    /// failed: the last octets may not have come.
-    pub fn leave(&mut self) -> Result<(), ConnectionFault>
+    /// Leaves the job that it is at, and ends its connection. Of an end that leaves a doubt tells who opens the connections: a job of which each
+    /// octet was sent is printed.
+    pub fn leave(&mut self)
         ensures { desk self.new.stage (D.connections self.new.dial)
             ≡ desk SinkStage.Idle (D.connections self.old.dial) }
     {
         let is_open = matches!(self.stage, SinkStage::Sending(_));
         self.stage = SinkStage::Idle;
         if is_open {
-            return self.dial.hang_up();
+            self.dial.hang_up();
         }
-        Ok(())
     }
 }

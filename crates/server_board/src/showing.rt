@@ -4,6 +4,8 @@
 //! A connection is taken out of the lobby as it comes, and is one of at most 128 exchanges from then on: its head has two seconds. No call waits
 //! for one of them alone, so those that halt hold up nobody; where there are too many, who has halted longest gives way.
 
+ghost use Rattle.std.specs.Prelude.{◌≡◌, ◌+◌, ◌-◌, ◌^◌, min};
+
 use crate::board::{Board, PLACES};
 use crate::drawn::Drawn;
 use crate::surveyor::Surveyor;
@@ -37,6 +39,13 @@ const PAUSE_MS: u64 = 100;
 
 /// With how many exchanges many are asking: then one response is given to all that ask for the same within a tenth of a second.
 const MANY: usize = 8;
+
+/// The second from which on the look behind one at this second is due.
+fn next_look(second: u64) -> u64
+    ensures { result ≡ min (second + 60) (2 ^ 64 - 1) }
+{
+    second.saturating_add(LOOK_SECONDS)
+}
 
 /// What is seen N seconds after the server's start.
 fn look_of(second: u64, pages: Pages, counts: &ServerCounts) -> Look {
@@ -85,7 +94,7 @@ impl<R: Files<File = File> + Clock + Log + Wait, E: HouseLedger> Surveyor<'_, '_
         if second < board.due {
             return;
         }
-        board.due = second.saturating_add(LOOK_SECONDS);
+        board.due = next_look(second);
         let pages = self.spool.pages(self.hall.rt);
         let _ = board.hour.note(look_of(second, pages, &self.counts()));
     }

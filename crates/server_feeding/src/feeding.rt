@@ -189,6 +189,11 @@ impl<R: Files<File = File> + Clock + Log + Wait, E: HouseLedger> Feeding<'_, '_,
             warn!(rt; target: PART, "the job in file {number}.job isn't printed: its file is gone");
             return true;
         }
+        if let Some(fault) = store.take_fault() {
+            let why = fault.cause;
+            warn!(rt; target: PART, "the job in file {number}.job isn't printed, and stays where it is: {why}");
+            return true;
+        }
         let why = Unfed(fed);
         warn!(rt; target: PART, "the job in file {number}.job isn't printed, and stays where it is: {why}");
         true

@@ -10,10 +10,8 @@ use crate::holds::{read_holds, write_holds};
 use crate::owner::{FiledJob, filed_job};
 use crate::recounting::Recounted;
 use crate::refusal::refused;
-use crate::scanned::SeekingReader;
-use crate::stored::StoredJobs;
 use config_values::Config;
-use job_disk::{AdmissionFault, Disk, DiskFault, DiskStore, FileRemoval};
+use job_disk::{AdmissionFault, Disk, DiskFault, DiskRoom, DiskStore, FileRemoval, StoredJobs};
 use job_files::{JobEnd, NUMBERS_END};
 use job_store::recover;
 use log::{Log, warn};
@@ -102,8 +100,12 @@ impl<'a, R: Files<File = File> + Log + Wait> JobFolder<'a, R> {
     ) -> Result<JobFolder<'a, R>, StartFault>
         ensures { IfErr result (IsUnopened (λ (part : StartPart). part ≡ Spool)) }
     {
-        let queues = config.queues().len();
-        let disk = match Disk::open(rt, alloc, path, config.max_jobs() as usize, queues) {
+        let room = DiskRoom {
+            jobs: config.max_jobs() as usize,
+            queues: config.queues().len(),
+            page_size: config.page_size(),
+        };
+        let disk = match Disk::open(rt, alloc, path, room) {
             Ok(disk) => disk,
             Err(error) => return Err(refused(rt, alloc, StartPart::Spool, path, &error)),
         };
@@ -148,8 +150,8 @@ impl<'a, R: Files<File = File> + Log + Wait> JobFolder<'a, R> {
         alloc: Global,
         number: u64,
     ) -> Result<Option<FiledJob>, DiskFault<'_>> {
-        let file = DiskStore::new(&self.disk).open_kept(number)?;
-        match filed_job(alloc, &mut SeekingReader::new(file), self.page_size) {
+        let mut file = DiskStore::new(&self.disk).open_kept(number)?;
+        match filed_job(alloc, &mut file, self.page_size) {
             Ok(job) => Ok(Some(job)),
             Err(why) => {
                 warn!(rt; "it isn't known whose the job in file {number} is: {why}");

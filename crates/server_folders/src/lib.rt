@@ -9,16 +9,13 @@ mod owner;
 mod recounting;
 mod refusal;
 mod resending;
-mod scanned;
-mod stored;
 mod told;
 mod told_places;
 mod waiting;
 
 pub use archive::{ACCOUNT_LINES, Archive, LAST_TRIES, open_archive};
-pub use job_disk::{AdmissionFault, DiskFault, FileRemoval, HeldLines};
+pub use job_disk::{AdmissionFault, DiskFault, FedFolder, FileRemoval, HeldLines, StoredJobs};
 pub use kept::{JobFolder, aftermath};
 pub use owner::{FiledJob, Owner, OwnerFault};
 pub use refusal::FOLDER_CAUSES;
 pub use resending::Unsent;
-pub use stored::{FedFolder, StoredJobs};

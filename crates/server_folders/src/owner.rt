@@ -1,9 +1,8 @@
 //! Whose a kept job is, and how long: what stands at the head of its file, its lines, and its control file.
 
-use crate::scanned::ScannedFile;
 use crate::told::FiledFile;
 use control_file::Control;
-use job_disk::JobSize;
+use job_disk::{JobSize, KeptFile};
 use job_heads::HeadFault;
 use job_store::read_sender;
 use lpd_commands::{Command, OctetFault, OctetRead, Sub, parse_command, parse_sub};
@@ -146,10 +145,10 @@ struct FilesSoFar {
 
 impl FilesSoFar {
     /// Takes what one line more says, with the file behind it, of which only a control file's octets are read.
-    fn take<F: ScannedFile>(
+    fn take(
         &mut self,
         alloc: Global,
-        job: &mut F,
+        job: &mut KeptFile,
         page_size: u32,
         line: &[u8],
     ) -> Result<(), OwnerFault> {
@@ -171,9 +170,9 @@ impl FilesSoFar {
 }
 
 /// The job that stands here, whose pages have this many octets, of which the data is passed over.
-pub(crate) fn filed_job<F: ScannedFile>(
+pub(crate) fn filed_job(
     alloc: Global,
-    job: &mut F,
+    job: &mut KeptFile,
     page_size: u32,
 ) -> Result<FiledJob, OwnerFault> {
     let owner = owner_of(alloc, job)?;

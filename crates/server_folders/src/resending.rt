@@ -2,7 +2,6 @@
 
 use crate::kept::JobFolder;
 use crate::owner::{FiledJob, OwnerFault, filed_job};
-use crate::scanned::SeekingReader;
 use config_values::Config;
 use job_disk::{AdmissionFault, DiskFault, DiskStore};
 use log::Log;
@@ -66,8 +65,8 @@ impl<'a, R: Files<File = File> + Log + Wait> JobFolder<'a, R> {
         number: u64,
     ) -> Result<(FiledJob, usize), Unsent<'_>> {
         let file = DiskStore::new(&self.disk).open_failed(number);
-        let file = file.map_err(Unsent::Fault)?;
-        let job = filed_job(alloc, &mut SeekingReader::new(file), self.page_size)?;
+        let mut file = file.map_err(Unsent::Fault)?;
+        let job = filed_job(alloc, &mut file, self.page_size)?;
         let queue = config.queue_named(job.owner.queue.as_slice());
         match queue.and_then(|queue| queue.checked_sub(1)) {
             Some(place) => Ok((job, place as usize)),

@@ -10,7 +10,7 @@
 //!
 //! The pauses are 5, 10, 20, 40, 60, 60 .. seconds.
 
-ghost use Rattle.std.specs.Prelude.{◌≡◌};
+ghost use Rattle.std.specs.Prelude.{◌≡◌, ◌+◌, ◌-◌, ◌^◌, min};
 ghost use Rattle.server_notes.specs.Standing.{pause_before};
 
 use std::alloc::{AllocError, Global};
@@ -45,6 +45,22 @@ struct PutOff {
     pauses: u32,
     /// When it is tried again, while it waits for that.
     due: Option<Instant>,
+}
+
+impl PutOff {
+    /// What it is once it gave its job back once more, until this moment.
+    fn once_more(self, due: Option<Instant>) -> PutOff
+        ensures pauses { result.pauses ≡ min (self.pauses + 1) (2 ^ 32 - 1) }
+        ensures due { result.due ≡ due }
+        ensures first { result.first ≡ self.first }
+        ensures file { result.file ≡ self.file }
+    {
+        PutOff {
+            pauses: self.pauses.saturating_add(1),
+            due,
+            ..self
+        }
+    }
 }
 
 /// The printers of a server that aren't reached, by their numbers, and what was told of them.
@@ -97,11 +113,8 @@ impl PutOffs {
             due: None,
         });
         let seconds = pause_before_try(put_off.pauses);
-        *place = Some(PutOff {
-            pauses: put_off.pauses.saturating_add(1),
-            due: now.checked_add(Duration::from_secs(seconds)),
-            ..put_off
-        });
+        let due = now.checked_add(Duration::from_secs(seconds));
+        *place = Some(put_off.once_more(due));
         Some(seconds)
     }
 

@@ -3,7 +3,7 @@
 ghost use Rattle.std.specs.Prelude.{◌≡◌, ◌^◌, min};
 
 use crate::errand::Errand;
-use crate::moments::{milliseconds_since, now};
+use crate::moments::{milliseconds_since, now, of_minutes};
 use crate::waiting::PrinterWait;
 use printer_sinks::Pause;
 use std::num::NonZeroU64;
@@ -54,7 +54,7 @@ impl<'a, R: Clock, Q: Errand> Pauses<'a, R, Q> {
             rt,
             errand,
             printer,
-            patience_ms: patience.map(|minutes| minutes.get().saturating_mul(60_000)),
+            patience_ms: patience.map(of_minutes),
             start: None,
             tried: None,
         }

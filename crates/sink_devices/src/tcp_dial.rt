@@ -5,11 +5,12 @@
 //! take. The printer's end of the connection is waited for, but not after it stayed away three times in a row.
 
 ghost use Rattle.std.specs.Prelude.{◌≡◌, ◌≤◌, None, Some, length, IfOk};
+ghost use Rattle.sink_devices.specs.Ends.{is_in_time};
 
 use crate::causes::Causes;
 use crate::connection::PrinterConnection;
 use crate::errand::Errand;
-use crate::moments::{milliseconds_since, now};
+use crate::moments::{milliseconds_since, now, of_seconds};
 use crate::unended::Unended;
 use crate::waiting::{PrinterWait, is_not_wanted, not_wanted};
 use log::{Log, info, warn};
@@ -38,6 +39,24 @@ const END_TURN_MS: u16 = 500;
 /// How many milliseconds lie between two tellings that a printer isn't reached.
 const TELL_MS: u64 = 60_000;
 
+/// A printer that isn't reached.
+#[derive(Clone, Copy)]
+struct Unreached {
+    since: Instant,
+    /// When that was told last.
+    told: Instant,
+}
+
+impl Unreached {
+    /// What it is once that was told again at this moment.
+    fn told_at(self, told: Instant) -> Unreached
+        ensures since { result.since ≡ self.since }
+        ensures told { result.told ≡ told }
+    {
+        Unreached { told, ..self }
+    }
+}
+
 /// How a connection ended, once the printer was told that nothing more is sent.
 #[derive(Clone, Copy)]
 enum End {
@@ -49,6 +68,17 @@ enum End {
     Late,
     /// Its end wasn't waited for, or not any longer.
     Left,
+}
+
+/// Whether the printer ended the connection in time, where that was waited for: one that failed is ended too.
+fn is_in_time(end: &End) -> Option<bool>
+    ensures { result ≡ is_in_time end.now }
+{
+    match end {
+        End::Ended | End::Failed(_) => Some(true),
+        End::Late => Some(false),
+        End::Left => None,
+    }
 }
 
 /// A printer that connections are opened to. What it sends is read and dropped, so that it never waits for its sender.
@@ -63,8 +93,7 @@ pub struct TcpDial<'a, R: Net + Clock + Log, Q: Errand> {
     connection: Option<PrinterConnection>,
     // Whether the connection took an octet.
     is_begun: bool,
-    // Since when it isn't reached, and when that was told last.
-    unreached: Option<(Instant, Instant)>,
+    unreached: Option<Unreached>,
     unended: Unended,
     cause: Option<Error>,
 }
@@ -86,7 +115,7 @@ impl<'a, R: Net + Clock + Log, Q: Errand> TcpDial<'a, R, Q> {
             errand,
             printer,
             address,
-            silence_ms: silence.map(|seconds| seconds.get().saturating_mul(1_000)),
+            silence_ms: silence.map(of_seconds),
             job: 0,
             connection: None,
             is_begun: false,
@@ -134,8 +163,11 @@ impl<'a, R: Net + Clock + Log, Q: Errand> TcpDial<'a, R, Q> {
         let Some(now) = now(self.rt) else {
             return;
         };
-        let Some((since, told)) = self.unreached else {
-            self.unreached = Some((now, now));
+        let Some(unreached) = self.unreached else {
+            self.unreached = Some(Unreached {
+                since: now,
+                told: now,
+            });
             let TcpDial {
                 printer,
                 job,
@@ -145,11 +177,11 @@ impl<'a, R: Net + Clock + Log, Q: Errand> TcpDial<'a, R, Q> {
             warn!(self.rt; "printer {printer}: job {job}: {address}: {error}");
             return;
         };
-        if milliseconds_since(self.rt, Some(told)) < TELL_MS {
+        if milliseconds_since(self.rt, Some(unreached.told)) < TELL_MS {
             return;
         }
-        self.unreached = Some((since, now));
-        let seconds = milliseconds_since(self.rt, Some(since)) / 1_000;
+        self.unreached = Some(unreached.told_at(now));
+        let seconds = milliseconds_since(self.rt, Some(unreached.since)) / 1_000;
         self.errand.tell_unreached(self.printer, self.job, seconds);
     }
 
@@ -167,7 +199,7 @@ impl<'a, R: Net + Clock + Log, Q: Errand> TcpDial<'a, R, Q> {
 
     /// Tells that a printer is reached that wasn't.
     fn tell_reached(&mut self) {
-        let Some((since, _)) = self.unreached.take() else {
+        let Some(Unreached { since, .. }) = self.unreached.take() else {
             return;
         };
         self.errand.note_taken(self.printer);
@@ -252,10 +284,9 @@ impl<'a, R: Net + Clock + Log, Q: Errand> TcpDial<'a, R, Q> {
         warn!(self.rt; "printer {printer}: job {job}: {address}: {why}: its last octets may not have come");
     }
 
-    /// Counts and tells a printer that didn't end its connection in time.
-    fn tell_late(&mut self) {
+    /// Tells of a printer that didn't end its connection in time.
+    fn tell_late(&self) {
         self.tell_doubt(&"the printer didn't end the connection");
-        self.unended = self.unended.after(false);
         if !self.unended.is_patient() {
             let TcpDial {
                 printer,
@@ -302,24 +333,20 @@ impl<'a, R: Net + Clock + Log, Q: Errand> Dial for TcpDial<'a, R, Q> {
         }
     }
 
-    fn hang_up(&mut self) -> Result<(), ConnectionFault> {
+    fn hang_up(&mut self) {
         // One that failed is closed, and why is kept.
         let Some(mut connection) = self.connection.take() else {
-            return Err(ConnectionFault);
+            return;
         };
-        match self.end(&mut connection) {
-            End::Ended => {
-                self.unended = self.unended.after(true);
-                self.errand.note_end(self.printer, None);
-                return Ok(());
-            }
-            End::Failed(error) => {
-                self.unended = self.unended.after(true);
-                self.tell_doubt(&error);
-            }
+        let end = self.end(&mut connection);
+        if let Some(is_in_time) = is_in_time(&end) {
+            self.unended = self.unended.after(is_in_time);
+        }
+        match end {
+            End::Ended => self.errand.note_end(self.printer, None),
+            End::Failed(error) => self.tell_doubt(&error),
             End::Late => self.tell_late(),
             End::Left => {}
         }
-        Err(ConnectionFault)
     }
 }
