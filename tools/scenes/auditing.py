@@ -388,6 +388,19 @@ def what_was_used():
         return "all columns"
 
 
+def an_empty_file_is_no_segment():
+    """An empty file is refused wherever it stands: alone, first, between two segments, and last."""
+    with tempfile.TemporaryDirectory() as folder:
+        files, empty = made_by_hand(folder), f"{folder}/empty"
+        open(empty, "w").close()
+        for at in range(len(files) + 1):
+            ran = subprocess.run([PROGRAM, "audit", *files[:at], empty, *files[at:]], capture_output=True, text=True, timeout=60)
+            check(ran.returncode == 6 and f"{empty}:1" in ran.stderr, f"at {at}: {ran.returncode} {ran.stdout}{ran.stderr}")
+        ran = subprocess.run([PROGRAM, "audit", empty], capture_output=True, text=True, timeout=60)
+        check(ran.returncode == 6 and f"{empty}:1" in ran.stderr, ran.stderr)
+        return f"{len(files) + 2} places"
+
+
 def names_are_no_formulas():
     """What strangers call themselves comes into a spreadsheet as text: with a `'` in front where it begins as a formula does."""
     names = {"=1+1": "'=1+1", "+1": "'+1", "-1": "'-1", "@a": "'@a", "%09a": "'\ta", "%0Da": "\"'\ra\"", "a=1": "a=1", "'a": "'a", "%20=1": " =1", "%25": "%"}
@@ -547,7 +560,7 @@ def write_segment(path, run, previous, entries):
     return count
 
 
-SCENES = [written_and_audited, changed_files_are_told, folders, what_was_used, names_are_no_formulas, a_printer_that_moves, pipes_in_the_place_of_files, a_last_segment_that_goes_on, a_full_disk, hostile_files, a_long_account]
+SCENES = [written_and_audited, changed_files_are_told, folders, what_was_used, an_empty_file_is_no_segment, names_are_no_formulas, a_printer_that_moves, pipes_in_the_place_of_files, a_last_segment_that_goes_on, a_full_disk, hostile_files, a_long_account]
 
 if __name__ == "__main__":
     sys.exit(main(SCENES, __doc__))

@@ -113,14 +113,15 @@ def too_few_descriptors():
 
 
 def little_memory():
-    """With any amount of memory a server either says at its start that it is refused, or takes a job and prints it, or refuses it; it never ends by itself."""
+    """With any amount of memory a server either says at its start that it is refused, or takes jobs or refuses them; it never ends by itself then."""
     seen = []
-    for megabytes in (30, 60, 100, 150, 200, 300, 400, 600, 1_000):
+    for megabytes in (10, 20, 30, 60, 100, 150, 200, 300, 400, 600, 1_000):
         with Bounded(resource.RLIMIT_AS, megabytes << 20) as server:
-            if not server.listens():
-                status = server.process.wait()
-                check(status in (3, 4), f"{megabytes} MB: {status}: {server.text('log')[-300:]}")
-                seen.append(f"{megabytes}: {server.text('log').splitlines()[-1]}")
+            # (its threads are begun behind the line that says where it listens)
+            if not server.listens() or time.sleep(1) or server.process.poll() is not None:
+                status, last = server.process.wait(), server.text("log").splitlines()[-1]
+                check(status == 4 and last == "fault 12 Memory", f"{megabytes} MB: {status}: {last}")
+                seen.append(f"{megabytes}: {last}")
                 continue
             answers = set()
             for number in range(20):

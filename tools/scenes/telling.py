@@ -87,6 +87,23 @@ def connections_are_told():
     return "four lines"
 
 
+def a_warning_that_comes_again():
+    """With --log a warning that one address causes again is counted, and told with how often it came; another one of that address is told at once, and one that
+    came once isn't told again."""
+    with tempfile.TemporaryDirectory() as room:
+        with Server(PROGRAM, spool(), "--keep-room", "--log", "time", "--control", f"{room}/control") as it:
+            for queue in (b"nosuch", b"other", b"nosuch", b"nosuch"):
+                talk(it.port, b"\x02" + queue + b"\n")
+            subprocess.run([PROGRAM, "control", f"{room}/control", "stop"], check=True, timeout=30, stdout=subprocess.DEVNULL)
+            it.process.wait(20)
+            lines = [shown(line).split(" ", 1)[1] for line in it.log().splitlines() if "UnknownQueue" in line]
+    lines = [re.sub(r"in \d+ s$", "in N s", line) for line in lines]
+    wanted = ["[WARN  lpd_daemon::answering] 127.0.0.1:PORT: 1 UnknownQueue: queue nosuch", "[WARN  lpd_daemon::answering] 127.0.0.1:PORT: 1 UnknownQueue: queue other"]
+    check(lines[:2] == wanted and len(lines) == 3, lines)
+    check(lines[2].endswith("127.0.0.1: 1 UnknownQueue: queue nosuch: 2 more times in N s"), lines[2])
+    return "three lines of four warnings"
+
+
 def no_descriptor_is_left():
     """A connection that can't be accepted, since the system has no more descriptors for the server."""
     with Server(PROGRAM, spool(), "--keep-room") as it:
@@ -171,7 +188,7 @@ def the_account_has_no_room():
     return "one line"
 
 
-SCENES = [refusals_name_their_job, connections_are_told, no_descriptor_is_left, printers_are_told, folders_are_told]
+SCENES = [refusals_name_their_job, connections_are_told, a_warning_that_comes_again, no_descriptor_is_left, printers_are_told, folders_are_told]
 
 # Told after a minute.
 LONG = [the_account_has_no_room]

@@ -2,7 +2,7 @@
 
 ghost use Rattle.std.specs.Prelude.{◌≡◌, ◌≤◌, ◌+◌, ◌-◌, ◌*◌, ◌/◌, ℕ, max};
 ghost use Rattle.config_values.specs.Config.{IsQueue, reserve_of};
-ghost use Rattle.server_house.specs.Rotating.{next_hold};
+ghost use Rattle.server_house.specs.Rotating.{most_beside, next_hold};
 
 use crate::ledgers::{HouseLedger, HouseSpool};
 use config_values::Config;
@@ -67,6 +67,10 @@ pub struct AccountRoom {
     most: u64,
     // Where more are counted than these, there is no room for a job of the largest limit.
     full: u64,
+    // How many entries a job of the largest limit takes at most, and one more.
+    reserve: u64,
+    // Up to here there is room for one job of the largest limit in each session.
+    tight: u64,
     // For how many milliseconds new jobs wait, at most.
     longest_ms: u64,
     hold: Hold,
@@ -101,10 +105,22 @@ impl AccountRoom {
             least,
             most: most.max(least.saturating_sub(1)),
             full: account.saturating_sub(largest + 1),
+            reserve: largest + 1,
+            tight: account.saturating_sub((largest + 1).saturating_mul(u64::from(sessions))),
             longest_ms,
             hold: Hold::No,
             full_since: None,
         }
+    }
+
+    /// Where more entries are counted than these beside N held jobs, new jobs wait. What is held is counted and can't be given back: up to
+    /// here the account isn't trimmed yet, so they would wait in vain, as long as there is room for one job in each session.
+    fn most_beside(&self, held: usize) -> u64
+        ensures { result ≡ most_beside self.now held }
+    {
+        let held = (held as u64).saturating_mul(self.reserve);
+        let trimmed = self.least.saturating_add(held);
+        trimmed.min(self.tight).max(self.most)
     }
 
     /// Says for how long there has been no room, after a minute and once a minute from then on.
@@ -139,6 +155,10 @@ impl AccountRoom {
             return true;
         }
         let held = spool.vacancy(rt).held;
+        if counted <= self.most_beside(held) {
+            self.hold = Hold::No;
+            return true;
+        }
         let Ok(now) = Instant::now(rt) else {
             return true;
         };
