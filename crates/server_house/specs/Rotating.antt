@@ -20,4 +20,5 @@ next_hold (Over before) now waited_ms longest_ms held = if nat_lt held before th
 -- how many entries may be counted beside so many held jobs until new jobs wait: as many as there are where the account is trimmed, as long
 -- as there is room for one job of the largest limit in each session, and never fewer than without held jobs
 abbrev pub most_beside : AccountRoom → ℕ → ℕ
-most_beside room held = max (min (min (room.least + min (held * room.reserve) (2 ^ 64 - 1)) (2 ^ 64 - 1)) room.tight) room.most
+most_beside room held =
+    max (min (min (room.least + min (held * room.reserve) (2 ^ 64 - 1)) (2 ^ 64 - 1)) (room.account - min (room.reserve * room.sessions) (2 ^ 64 - 1))) room.most

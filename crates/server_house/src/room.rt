@@ -69,8 +69,8 @@ pub struct AccountRoom {
     full: u64,
     // How many entries a job of the largest limit takes at most, and one more.
     reserve: u64,
-    // Up to here there is room for one job of the largest limit in each session.
-    tight: u64,
+    account: u64,
+    sessions: u64,
     // For how many milliseconds new jobs wait, at most.
     longest_ms: u64,
     hold: Hold,
@@ -97,16 +97,19 @@ impl AccountRoom {
         }
         // Each connection that is served, or waits for that, may bring a job that isn't counted
         // yet.
-        let jobs = u64::from(sessions).saturating_mul(2);
+        let sessions = u64::from(sessions);
+        let jobs = sessions.saturating_mul(2);
+        let reserve = largest + 1;
         let account = config.account();
         let least = (account / 4).max(1);
-        let most = account.saturating_sub((largest + 1).saturating_mul(jobs));
+        let most = account.saturating_sub(reserve.saturating_mul(jobs));
         AccountRoom {
             least,
             most: most.max(least.saturating_sub(1)),
-            full: account.saturating_sub(largest + 1),
-            reserve: largest + 1,
-            tight: account.saturating_sub((largest + 1).saturating_mul(u64::from(sessions))),
+            full: account.saturating_sub(reserve),
+            reserve,
+            account,
+            sessions,
             longest_ms,
             hold: Hold::No,
             full_since: None,
@@ -120,7 +123,10 @@ impl AccountRoom {
     {
         let held = (held as u64).saturating_mul(self.reserve);
         let trimmed = self.least.saturating_add(held);
-        trimmed.min(self.tight).max(self.most)
+        let tight = self
+            .account
+            .saturating_sub(self.reserve.saturating_mul(self.sessions));
+        trimmed.min(tight).max(self.most)
     }
 
     /// Says for how long there has been no room, after a minute and once a minute from then on.
