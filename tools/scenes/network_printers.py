@@ -28,7 +28,9 @@ class Printer:
         self.socket = socket.socket()
         self.socket.bind(("127.0.0.1", 0))
         self.place = "socket://127.0.0.1:%d" % self.socket.getsockname()[1]
-        self.end, self.jobs, self.left = end, [], []
+        self.end, self.left = end, []
+        # Of each connection, in the order in which they came, its octets once it was read to its end.
+        self.came = []
         if is_on:
             self.turn_on()
 
@@ -40,14 +42,20 @@ class Printer:
         with contextlib.suppress(OSError):
             while True:
                 peer, _ = self.socket.accept()
-                threading.Thread(target=self.serve, args=(peer,), daemon=True).start()
+                self.came.append(None)
+                threading.Thread(target=self.serve, args=(peer, len(self.came) - 1), daemon=True).start()
 
-    def serve(self, peer):
+    @property
+    def jobs(self):
+        """The jobs that were read to their ends, in the order in which their connections came."""
+        return [octets for octets in self.came if octets is not None]
+
+    def serve(self, peer, place):
         octets = b""
         with contextlib.suppress(OSError):
             while piece := peer.recv(65536):
                 octets += piece
-            self.jobs.append(octets)
+            self.came[place] = octets
             self.end(self, peer)
 
 
