@@ -241,7 +241,7 @@ class Moody:
 
 
 def pauses_begin_anew_behind_a_page():
-    """With --restart a queue's pause grows from failure to failure, and is as short as at first once a page was printed in between."""
+    """With --restart a queue is started again as soon as at first where pages were written before the failure, however many jobs have failed so."""
     printer = Moody()
     # (more than the printer's socket and the server's hold, or than it writes until the connection is reset)
     octets = b"x" * (300_000 if CHECKED else 6_000_000)
@@ -257,7 +257,7 @@ def pauses_begin_anew_behind_a_page():
             return time.monotonic() - start
 
         fail(1)
-        grown = [fail(number) for number in (2, 3)]
+        pauses = [fail(number) for number in (2, 3)]
         printer.is_well = True
         check(send(room.port, 9, octets) == 0, "a job is taken")
         for _ in range(300):
@@ -268,8 +268,9 @@ def pauses_begin_anew_behind_a_page():
         printer.is_well = False
         fail(4)
         anew = fail(5)
-        check(grown[1] > 1.8 and anew < 4, f"pauses of {grown} s, and behind a page {anew} s")
-        return f"{grown[0]:.1f}, {grown[1]:.1f} s, and behind a page {anew:.1f} s"
+        pauses.append(anew)
+        check(max(pauses) < 4, f"pauses of {pauses} s")
+        return f"pauses of at most {max(pauses):.1f} s"
 
 
 def many_syncs_wake_each():
