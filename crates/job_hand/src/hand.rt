@@ -7,7 +7,7 @@ ghost use Rattle.lpd_values.specs.Name.{is_control_name, number_of};
 ghost use Rattle.lpd_commands.specs.Written.{command_has_line};
 ghost use Rattle.lpd_commands.specs.declared.command.Command.TheVariants.{Receive};
 ghost use Rattle.control_file.specs.View.{contents};
-ghost use Rattle.kept_jobs.specs.Folder.{Empties, GoesOn, IsNever, OldOrNone, OrNone, SamePassed};
+ghost use Rattle.kept_jobs.specs.Folder.{EmptiesOrFails, GoesOn, IsNever, OldOrNone, OrNone, SamePassed};
 ghost use Rattle.kept_jobs.specs.Kept.{Leaves, Passes};
 ghost use Rattle.job_streams.specs.Stream.{Coming, control_name, is_whole, stream};
 ghost use Rattle.job_streams.specs.Coming.{new_job, with_control, with_end, with_file, with_octets};
@@ -421,8 +421,8 @@ impl<F: Folder> Hand<F> {
     /// Takes away what is in the folder of the job in hand, which isn't to be kept for this cause.
     pub fn fail(&mut self, cause: Cause)
         ensures broken { self.new.stage ≡ stage.Broken cause }
-        ensures emptied { F.faults self.new.folder ≡ F.faults self.old.folder
-            → Empties (F.seen self.old.folder) (F.seen self.new.folder) }
+        ensures emptied { EmptiesOrFails (F.faults self.old.folder) (F.faults self.new.folder)
+            (F.seen self.old.folder) (F.seen self.new.folder) }
         ensures crash { OrNone (F.may_leave self.old.folder) (F.may_leave self.new.folder) }
         ensures moments { GoesOn F.moment F.left_since F.may_lack self.old.folder self.new.folder
             (OldOrNone (F.may_leave self.old.folder)) }
@@ -435,8 +435,8 @@ impl<F: Folder> Hand<F> {
     /// The job in hand has ended before it was whole.
     pub fn let_go(&mut self)
         ensures idle { self.new.stage ≡ stage.Idle }
-        ensures emptied { F.faults self.new.folder ≡ F.faults self.old.folder
-            → Empties (F.seen self.old.folder) (F.seen self.new.folder) }
+        ensures emptied { EmptiesOrFails (F.faults self.old.folder) (F.faults self.new.folder)
+            (F.seen self.old.folder) (F.seen self.new.folder) }
         ensures crash { OrNone (F.may_leave self.old.folder) (F.may_leave self.new.folder) }
         ensures moments { GoesOn F.moment F.left_since F.may_lack self.old.folder self.new.folder
             (OldOrNone (F.may_leave self.old.folder)) }

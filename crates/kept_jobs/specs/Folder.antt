@@ -29,6 +29,10 @@ octets_of None = []
 abbrev pub Empties : (old new : Option Seen) → Type 0
 Empties = Leads (λ old new. new ≡ record old { partial = None; whole = None })
 
+-- nothing is in hand any more, unless the folder has failed since
+abbrev pub EmptiesOrFails : (before now : ℕ) → (old new : Option Seen) → Type 0
+EmptiesOrFails before now old new = now ≡ before → Empties old new
+
 -- nothing was passed on or left
 abbrev pub SamePassed : (old new : Option Seen) → Type 0
 SamePassed = Leads (λ old new. new.passed ≡ old.passed)

@@ -2,7 +2,7 @@
 
 ghost use Rattle.std.specs.Prelude.{◌≡◌, ◌⊎◌, ◌≤◌, ◌++◌, [], List, ℕ, Option, None, Some, OnOk, is_some};
 ghost use Rattle.kept_jobs.specs.declared.folder.KeepError.TheVariants.{Memory};
-ghost use Rattle.kept_jobs.specs.Folder.{Elapses, Empties, HasCause, IsNever, IsSeen, LacksNoMore, Leads, NoMore, OrNone, SamePassed, SomeOf, octets_of};
+ghost use Rattle.kept_jobs.specs.Folder.{Elapses, EmptiesOrFails, HasCause, IsNever, IsSeen, LacksNoMore, Leads, NoMore, OrNone, SamePassed, SomeOf, octets_of};
 ghost use Rattle.kept_jobs.specs.Kept.{IsKept, Leaves, Passes};
 
 use std::alloc::{AllocError, AllocFailed};
@@ -150,7 +150,8 @@ pub trait Folder {
 
     /// Takes away what is in hand, if it can. After a crash a job that was whole may come back.
     fn discard(&mut self)
-        ensures emptied { faults self.new ≡ faults self.old → Empties (seen self.old) (seen self.new) }
+        ensures emptied { EmptiesOrFails (faults self.old) (faults self.new) (seen self.old)
+            (seen self.new) }
         ensures passed { SamePassed (seen self.old) (seen self.new) }
         ensures crash { OrNone (may_leave self.old) (may_leave self.new) }
         ensures time { Elapses (moment self.old) (moment self.new) (left_since self.old)
