@@ -1,9 +1,10 @@
 #!/usr/bin/env python3
 """Scenes of a site some of whose printers are off: off.py PROGRAM [SCENE..], where PROGRAM is the built lpd_server.
 
-One printer refuses connections, one answers nothing, one queue is held: the others print as if these weren't there, and once the printers are back
-they print what was sent to them. A printer that isn't reached gives its jobs back, so that the spool has none of them, and a stop waits for none. JOBS says how many jobs the site's clients send, 6,000 where nothing is said. Each scene is bounded in time and runs
-on loopback alone. A line says what was seen; the last line is 'N passed, M failed'."""
+One printer refuses connections, one answers nothing, one has no paper amid a job, one queue is held: the others print as if these weren't there, and once the
+printers are back they print what was sent to them. A printer that isn't reached gives its jobs back, so that the spool has none of them, and a stop waits for none.
+JOBS says how many jobs the site's clients send, 6,000 where nothing is said, KILLS how often a server is killed. Each scene is bounded in time and runs on loopback
+alone. A line says what was seen; the last line is 'N passed, M failed'."""
 import contextlib
 import os
 import re
@@ -15,19 +16,30 @@ import time
 from client import free_port
 from parking import QUEUES, Flood, Room, check_order, config, jobs_in, lines_of, send, job
 from scene import CHECKED, SHORT, check, main, size
+from trimming import files, told
 
 JOBS = size("JOBS", 6_000, 400)
-REFUSES, SILENT, HELD = "q5", "q6", "q7"
+KILLS = size("KILLS", 20, 3)
+REFUSES, SILENT, HELD, PAPERLESS = "q5", "q6", "q7", "q8"
+OFF = (REFUSES, SILENT, HELD, PAPERLESS)
+# How many octets a printer takes of the job at which its paper ends.
+PAPER = 20_000
 
 
 class Printer(threading.Thread):
     """A printer on the network that keeps each job that it is sent, in order; it is off until it is turned on. One that is silent listens before, and takes no
-    connection."""
+    connection. One that has little paper takes so much of the first job that has more, and then nothing until it gets paper: what the system takes beside it
+    is less than such a job."""
 
-    def __init__(self, silent=False):
+    def __init__(self, silent=False, has_little_paper=False):
         super().__init__(daemon=True)
-        self.jobs, self.plugs, self.listener = [], [], socket.socket()
-        self.port = free_port()
+        self.jobs, self.cut, self.plugs, self.listener = [], [], [], socket.socket()
+        self.port, self.paper, self.is_out = free_port(), threading.Event(), threading.Event()
+        if has_little_paper:
+            self.listener.setsockopt(socket.IPPROTO_TCP, socket.TCP_MAXSEG, 536)
+            self.listener.setsockopt(socket.SOL_SOCKET, socket.SO_RCVBUF, 4096)
+        else:
+            self.paper.set()
         if silent:
             self.listener.bind(("127.0.0.1", self.port))
             self.listener.listen(0)
@@ -51,30 +63,45 @@ class Printer(threading.Thread):
     def run(self):
         while True:
             peer, _ = self.listener.accept()
-            octets = b""
+            octets, is_cut = b"", False
             with peer, contextlib.suppress(OSError):
                 peer.settimeout(30)
                 while piece := peer.recv(65536):
                     octets += piece
+                    if len(octets) > PAPER and not self.paper.is_set():
+                        is_cut = True
+                        self.is_out.set()
+                        self.paper.wait()
+                        break
             if octets:
-                self.jobs.append(octets)
+                (self.cut if is_cut else self.jobs).append(octets)
 
 
 def plan_of(jobs, with_off):
-    others = [f"q{number}" for number in range(1, QUEUES + 1) if f"q{number}" not in (REFUSES, SILENT, HELD)]
+    others = [f"q{number}" for number in range(1, QUEUES + 1) if f"q{number}" not in OFF]
     plan = []
     for at in range(jobs):
         plan.append((others[at % len(others)], lines_of(at)))
         if with_off and at % 8 == 0:
-            plan.append(((REFUSES, SILENT, HELD)[at // 8 % 3], lines_of(at // 8)))
+            plan.append((OFF[at // 8 % len(OFF)], lines_of(at // 8)))
     return plan, others
 
 
+def audit(room):
+    """Stops the server, and audits its account with the files that were printed to: what printers on the network print can't be read again."""
+    end_of_stop(room, "stop")
+    words = [word for number in range(1, QUEUES + 1) if os.path.exists(room.path(number)) for word in ("--printed", f"{number}={room.path(number)}")]
+    return told("audit", *files(f"{room.folder}/account"), *words)
+
+
 def run_site(with_off):
-    """Answers the flood, how many jobs of the others were printed a second, and what the printers were sent that came back."""
-    refuses, silent = Printer(), Printer(silent=True)
-    words = [f"--printer={name[1:]}=socket://127.0.0.1:{it.port}" for name, it in ((REFUSES, refuses), (SILENT, silent))]
-    with Room(config(), *words) as room:
+    """Answers the flood, how many jobs of the others were printed a second, and what an audit says once all printers were on."""
+    refuses, silent, paperless = Printer(), Printer(silent=True), Printer(has_little_paper=True)
+    printers = ((REFUSES, refuses), (SILENT, silent), (PAPERLESS, paperless))
+    words = [f"--printer={name[1:]}=socket://127.0.0.1:{it.port}" for name, it in printers]
+    with Room(config(), *words, "--printer-silence", "3") as room:
+        room.words = (*room.words, "--account", f"{room.folder}/account")
+        paperless.turn_on()
         room.start()
         room.tell("hold", HELD)
         plan, others = plan_of(JOBS, with_off)
@@ -82,38 +109,133 @@ def run_site(with_off):
         begun = time.monotonic()
         flood.go()
         check(not flood.refused, f"refused: {flood.refused}; {room.log()[-600:]}")
-        off = sum(name in (REFUSES, SILENT, HELD) for name, _, _ in flood.taken)
+        off = sum(name in OFF for name, _, _ in flood.taken)
         until = time.monotonic() + 300
-        while len(room.files()) > off and time.monotonic() < until:
+        while len(room.files()) + len(room.files("failed")) + len(paperless.jobs) > off and time.monotonic() < until:
             time.sleep(0.02)
         rate = (len(flood.taken) - off) / (time.monotonic() - begun)
         for queue in others:
             seen = jobs_in(room.printed(int(queue[1:])), queue)
             check_order(seen)
             check(set(seen) == flood.want(queue) and len(seen) == len(set(seen)), f"{queue}: {len(seen)} printed of {len(flood.want(queue))}")
-        if with_off:
-            refuses.turn_on()
-            silent.turn_on()
-            room.tell("release", HELD)
-            room.await_files(0, 300)
-            time.sleep(0.5)
-            for queue, octets in ((REFUSES, b"".join(refuses.jobs)), (SILENT, b"".join(silent.jobs)), (HELD, room.printed(int(HELD[1:])))):
-                seen = jobs_in(octets, queue)
-                check_order(seen)
-                check(set(seen) == flood.want(queue) and len(seen) == len(set(seen)), f"{queue}: {len(seen)} printed of {len(flood.want(queue))}")
-        return flood, rate, off
+        said = turn_on_again(room, flood, dict(printers)) if with_off else ""
+        return flood, rate, off, said
+
+
+def turn_on_again(room, flood, printers):
+    """All printers are on again: each prints what was sent to it in order, the one that had no paper its job anew. Answers what an audit says then."""
+    paperless = printers[PAPERLESS]
+    check(paperless.is_out.is_set(), "no printer is out of paper")
+    await_files_failed(room, 1)
+    check("putoff" not in printer_line(room, PAPERLESS), "one that has no paper isn't told as put off")
+    paperless.paper.set()
+    printers[REFUSES].turn_on()
+    printers[SILENT].turn_on()
+    room.tell("release", HELD)
+    check("resent file " in (said := room.tell("resend", "all", PAPERLESS)), said)
+    room.tell("start", PAPERLESS)
+    room.await_files(0, 300)
+    time.sleep(0.5)
+    sent = {queue: b"".join(it.jobs) for queue, it in printers.items()}
+    for queue, octets in (*sent.items(), (HELD, room.printed(int(HELD[1:])))):
+        seen = jobs_in(octets, queue)
+        check_order(seen)
+        check(set(seen) == flood.want(queue) and len(seen) == len(set(seen)), f"{queue}: {len(seen)} printed of {len(flood.want(queue))}")
+    check(len(paperless.cut) == 1, f"{len(paperless.cut)} jobs were cut")
+    said = audit(room)
+    check(said.startswith("legal ") and f" done {len(flood.taken)} " in said, said)
+    return said
+
+
+def await_files_failed(room, count, seconds=30):
+    until = time.monotonic() + seconds
+    while len(room.files("failed")) != count:
+        check(time.monotonic() < until, f"{len(room.files('failed'))} have failed, and not {count}: {room.log()[-800:]}")
+        time.sleep(0.1)
+
+
+def printer_line(room, queue):
+    """What `status` says of the printer of a queue."""
+    return re.search(rf"^printer {queue[1:]} .*$", room.tell("status"), re.MULTILINE)[0]
 
 
 def printers_that_are_off():
-    """Two printers are off for the whole run, and a queue is held: nobody is refused, none waits long, the others print no slower than without those jobs; the
-    printers come back and print theirs in order."""
-    alone_flood, alone, _ = run_site(False)
-    flood, beside, off = run_site(True)
+    """Two printers are off for the whole run, one has no paper amid a job, and a queue is held: nobody is refused, none waits long, the others print no slower
+    than without those jobs; the printers come back and print theirs in order, and the account says what was printed."""
+    alone_flood, alone, _, _ = run_site(False)
+    flood, beside, off, said = run_site(True)
     if not CHECKED and not SHORT:
         check(beside >= 0.9 * alone, f"{beside:.0f} a second, {alone:.0f} without the jobs of those that are off")
         check(flood.longest < alone_flood.longest + 5, f"the slowest answer after {flood.longest:.1f} s, {alone_flood.longest:.1f} s without them")
     return (f"{len(flood.taken)} jobs taken, {off} of them for printers that are off; {beside:.0f} a second of the others printed, {alone:.0f} without those; the slowest "
-            f"answer after {flood.longest:.2f} s, {alone_flood.longest:.2f} s without those")
+            f"answer after {flood.longest:.2f} s, {alone_flood.longest:.2f} s without those; {said.splitlines()[0]}")
+
+
+class Senders:
+    """Clients at addresses of their own that send jobs, one after another, until they are stopped. What was taken is noted."""
+
+    def __init__(self, room, queues, count=6):
+        self.room, self.queues, self.taken, self.lock, self.ends = room, queues, [], threading.Lock(), threading.Event()
+        self.threads = [threading.Thread(target=self.run, args=(number,), daemon=True) for number in range(count)]
+        for thread in self.threads:
+            thread.start()
+
+    def run(self, sender):
+        at = 0
+        while not self.ends.is_set():
+            at += 1
+            queue = self.queues[at % len(self.queues)]
+            with contextlib.suppress(OSError):
+                # (each fifth is larger than what a printer that has no paper takes)
+                if send(self.room.port, at, job(queue, sender, at, 4_000 if at % 5 == 1 else 20), queue, f"127.0.1.{sender + 1}", f"u{sender}") == 0:
+                    with self.lock:
+                        self.taken.append((queue, sender, at))
+                    continue
+            time.sleep(0.01)
+
+    def stop(self):
+        self.ends.set()
+        for thread in self.threads:
+            thread.join(30)
+
+
+def killed_beside_printers_that_are_off():
+    """The server is killed again and again beside a printer that refuses, one that answers nothing and one that has no paper amid a job, the first of which
+    comes back on the way: each job that was acknowledged is printed, each sender's in order, and the account is legal."""
+    printers = {"q1": Printer(), "q2": Printer(silent=True), "q3": Printer(has_little_paper=True)}
+    words = [f"--printer={name[1:]}=socket://127.0.0.1:{it.port}" for name, it in printers.items()]
+    with Room(config(queues=5, jobs=16), *words, "--printer-silence", "1") as room:
+        room.words = (*room.words, "--account", f"{room.folder}/account")
+        printers["q3"].turn_on()
+        room.start()
+        senders = Senders(room, ("q1", "q4", "q2", "q5", "q3", "q4", "q5"))
+        for kill in range(KILLS):
+            time.sleep(0.7 + 0.05 * (kill % 7) + 1.5 * (kill % 4 == 3))
+            room.kill()
+            room.start()
+            if kill == KILLS // 2:
+                printers["q1"].turn_on()
+        senders.stop()
+        check(printers["q3"].is_out.is_set(), "no printer is out of paper")
+        printers["q3"].paper.set()
+        printers["q2"].turn_on()
+        room.tell("resend", "all", "q3")
+        room.tell("start", "q3")
+        room.await_files(0, 240)
+        time.sleep(0.5)
+        told = []
+        for number in range(1, 6):
+            queue = f"q{number}"
+            octets = b"".join(printers[queue].jobs) if queue in printers else room.printed(number)
+            want = {(sender, at) for name, sender, at in senders.taken if name == queue}
+            whole = [(int(a), int(b)) for a, b in re.findall(rf"<{queue}\.(\d+)\.(\d+)\.(?:19/20|3999/4000)>", octets.decode())]
+            first = list(dict.fromkeys(whole))
+            check(not want - set(first), f"{queue}: lost {sorted(want - set(first))[:5]} of {len(want)}: {room.files('failed')}")
+            check_order(first)
+            told.append(f"{queue} {len(want)} of which {len(whole) - len(first)} twice")
+        legal = re.search("^legal .*", said := audit(room), re.MULTILINE)
+        check(legal, said)
+    return f"{KILLS} kills: " + ", ".join(told) + f"; {legal[0]}"
 
 
 def a_pool_that_one_printer_could_fill():
@@ -276,7 +398,7 @@ def patience_across_tries():
 
 
 SCENES = [a_pool_that_one_printer_could_fill, a_printer_that_gives_its_jobs_back, a_queue_of_two_printers, stops_beside_a_printer_that_is_off,
-          a_queue_that_is_held_amid_a_job, a_full_pipe, printers_that_are_off]
+          a_queue_that_is_held_amid_a_job, a_full_pipe, printers_that_are_off, killed_beside_printers_that_are_off]
 
 
 if __name__ == "__main__":
