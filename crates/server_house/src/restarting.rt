@@ -59,6 +59,9 @@ impl<R: Clock + Log + Wait, E: HouseLedger> House<'_, '_, R, E> {
         let config = &self.hall.oversight.config;
         for before in 0..config.printer_count() {
             let printer = before + 1;
+            if !self.hall.put_offs.is_waiting(self.hall.rt, printer) {
+                continue;
+            }
             let queue = config.queue_of(printer);
             if !self.has_standstill(queue)
                 && self.hall.put_offs.take_due(self.hall.rt, printer, now)
