@@ -8,11 +8,11 @@ ghost use Rattle.std.specs.Prelude.{◌≡◌, ◌+◌, ◌-◌, ◌^◌, min};
 
 use crate::board::{Board, PLACES};
 use crate::drawn::Drawn;
-use crate::surveyor::Surveyor;
 use connection_lobby::Visit;
 use log::{Log, warn};
 use server_counts::{Look, ServerCounts};
-use server_house::HouseLedger;
+use server_house::{Hall, HouseLedger, HouseSpool};
+use server_survey::Surveyor;
 use shared_spool::Sight;
 use spool_snapshot::Pages;
 use status_answers::{
@@ -69,7 +69,31 @@ fn numbers_of(alloc: Global, sight: &Sight) -> Result<Vec<u64>, AllocError> {
     Ok(numbers)
 }
 
-impl<R: Files<File = File> + Clock + Log + Wait, E: HouseLedger> Surveyor<'_, '_, R, E> {
+/// Who shows how a server stands to whoever asks.
+#[derive(Drop)]
+pub struct Showing<'h, 'a, R, E: HouseLedger> {
+    pub spool: &'h HouseSpool<E>,
+    pub hall: &'h Hall<'a, R>,
+}
+
+impl<'h, 'a, R, E: HouseLedger> Showing<'h, 'a, R, E> {
+    /// Who looks at how it stands.
+    fn surveyor(&self) -> Surveyor<'h, 'a, R, E> {
+        Surveyor {
+            spool: self.spool,
+            hall: self.hall,
+        }
+    }
+
+    /// The status isn't shown any more, once the spool is closed.
+    pub fn end_showing(&self) {
+        if let Some(showing) = &self.hall.showing {
+            showing.end();
+        }
+    }
+}
+
+impl<R: Files<File = File> + Clock + Log + Wait, E: HouseLedger> Showing<'_, '_, R, E> {
     /// The milliseconds since the server's start; none where the clock can't be read.
     fn uptime_ms(&self) -> u64 {
         let start = self.hall.oversight.start;
@@ -109,7 +133,7 @@ impl<R: Files<File = File> + Clock + Log + Wait, E: HouseLedger> Surveyor<'_, '_
     ) -> Result<String, AllocError> {
         let (rt, alloc) = (self.hall.rt, self.hall.alloc);
         let sight = self.spool.sight(rt, alloc)?;
-        let Some(survey) = self.survey(&sight)? else {
+        let Some(survey) = self.surveyor().survey(&sight)? else {
             return unavailable_response(alloc);
         };
         let ages = match &self.hall.job_book {
@@ -256,15 +280,6 @@ impl<R: Files<File = File> + Clock + Log + Wait, E: HouseLedger> Surveyor<'_, '_
                 exchanges.await_turn(board.lobby.descriptor());
             }
             self.wait_at(&mut board, if is_busy || has_come { 0 } else { u64::MAX });
-        }
-    }
-}
-
-impl<R, E: HouseLedger> Surveyor<'_, '_, R, E> {
-    /// The status isn't shown any more, once the spool is closed.
-    pub fn end_showing(&self) {
-        if let Some(showing) = &self.hall.showing {
-            showing.end();
         }
     }
 }

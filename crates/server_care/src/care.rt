@@ -1,7 +1,7 @@
 //! Who looks after a server.
 
-use server_board::Surveyor;
 use server_house::{Hall, HouseLedger, HouseSpool};
+use server_survey::Surveyor;
 
 /// Who looks after a server: what is done there for whoever runs it.
 #[derive(Drop)]
