@@ -201,10 +201,11 @@ def taken_out_or_begun():
 
 
 def begun_by_none_amid_it():
-    """One printer of a queue is off, and its jobs leave the spool while another one prints: each is sent once, in order. Planted: the queue isn't held meanwhile."""
+    """One printer of a queue is off, and its jobs leave the spool while another one prints: each is sent once, in order. Planted: the queue isn't held
+    meanwhile, and the lines are locked for the look alone, and anew behind it."""
     off, on = SlowPrinter(), SlowPrinter(0.005)
     words = [f"--printer={number}=socket://127.0.0.1:{it.port}" for number, it in ((1, off), (2, on))]
-    with Room(settings(1007, pages=4096).replace("printers = 1", "printers = 2", 1), *words) as room:
+    with Room(settings(1008, pages=4096).replace("printers = 1", "printers = 2", 1), *words) as room:
         on.turn_on()
         room.start()
         jobs = [(number % 4, number) for number in range(24)]

@@ -2,7 +2,7 @@
 
 ghost use Rattle.std.specs.Prelude.{Some};
 
-use crate::board::{Board, Mark};
+use super::board::{Board, Mark};
 use std::sync::Wait;
 use std::time::Clock;
 use test_kit::{OctetFault, OctetRead, OctetWrite};

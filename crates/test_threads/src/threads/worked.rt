@@ -1,6 +1,6 @@
 //! One job of two pages, worked out: its stream, its entries, and when they are written.
 
-use crate::ends::{Client, Device, Way};
+use super::ends::{Client, Device, Way};
 use shared_spool::Kind;
 
 /// The octets of the job.

@@ -1,9 +1,6 @@
 //! Jobs by calls through seats, each seat in a thread of its own.
 
-use crate::ends::Way;
-use crate::scene::{Missing, Scene};
-use crate::stage::{Script, happen, play};
-use crate::worked::{CALLED, DATA, WHOLE, called};
+use crate::threads::{CALLED, DATA, Missing, Scene, WHOLE, Way, called, happen, play};
 use shared_spool::Entry;
 use std::test::Fail;
 
@@ -18,7 +15,7 @@ fn a_seat_is_missing_at_first(rt: HostRuntime) -> Result<(), Fail> {
             cues: &[],
             missing,
         };
-        let report = happen(&rt, Script::Scene(scene)).ok_or("no report")?;
+        let report = happen(&rt, scene).ok_or("no report")?;
         report.is_quiet(&rt, "a seat is missing");
         let told = report.missed.as_ref().ok_or("nothing is missed")?;
         assert_eq!(rt; told.as_str(), "13 SeatsMissing");

@@ -1,10 +1,9 @@
 //! Sessions that are served, and printers that workers feed, each in a thread of its own.
 
-use crate::board::Mark;
-use crate::ends::{Client, Device, Hold};
-use crate::scene::Cue;
-use crate::stage::play;
-use crate::worked::{ANSWERED_AT, DATA, STREAM, WHOLE, WORKS, WRITTEN_AT, reached, served};
+use crate::threads::{
+    ANSWERED_AT, Client, Cue, DATA, Device, Hold, Mark, STREAM, WHOLE, WORKS, WRITTEN_AT, play,
+    reached, served,
+};
 use session::SessionEnd;
 use shared_spool::Kind;
 use std::process::Abort;

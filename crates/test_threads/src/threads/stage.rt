@@ -2,13 +2,10 @@
 
 ghost use Rattle.spool_ledgers.specs.Blanks.{AreFor, mark};
 
-use crate::board::{Board, Mark};
-use crate::director::Step;
-use crate::ends::{Client, Device};
-use crate::report::Report;
-use crate::scene::{Cue, Missing, Outcome, Scene, Seats, Stage, act};
-use crate::turns::Pair;
-use crate::waiters::{sessions_in, wait_through};
+use super::board::{Board, Mark};
+use super::ends::{Client, Device};
+use super::report::Report;
+use super::scene::{Cue, Missing, Outcome, Scene, Seats, Stage, act};
 use config_values::Config;
 use shared_spool::{
     Blanks, Opened, Pages, PrinterSeat, Segment, SessionSeat, SharedSpool, SpoolLedger, Unfinished,
@@ -27,16 +24,49 @@ pub const PAGE_SIZE: usize = 8;
 /// How many pages a spool has.
 pub const PAGES: usize = 4;
 
-/// The second queue of the scenes of waiters, whose printers are numbered behind the first one's.
-const PLOTTER: &str = "[[queue]]\nname = \"plotter\"\nlimit = 3\nprinters = 2\n";
-
-/// What happens at a spool.
+/// What a spool has for what happens there.
 #[derive(Clone, Copy)]
-pub enum Script<'a> {
-    /// Sessions and printers act.
-    Scene(Scene<'a>),
-    /// Waiters wait while a director does these steps.
-    Steps(&'a [Step]),
+pub struct Places<'a> {
+    /// How many sessions have a seat, beside the director.
+    pub sessions: usize,
+    /// How many printers the first queue has.
+    pub printers: usize,
+    /// Further queues, as a configuration has them.
+    pub others: &'a str,
+    /// Which seat is missing when the spool is first to be finished.
+    pub missing: Missing,
+}
+
+/// What happens at a spool, in threads of its own.
+pub trait Happens: Copy {
+    /// What the spool has for it.
+    fn places(&self) -> Places<'_>;
+
+    /// Has it happen, and gives all seats back. None where memory is refused or a thread can't be made.
+    fn happen<R: Host, E: Entries, K: Sums, H: Sums>(
+        &self,
+        stage: &Stage<'_, R, E, K, H>,
+        seats: Seats<E, K, H>,
+    ) -> Option<Outcome<E, K, H>>;
+}
+
+impl Happens for Scene<'_> {
+    fn places(&self) -> Places<'_> {
+        Places {
+            sessions: self.clients.len(),
+            printers: self.devices.len(),
+            others: "",
+            missing: self.missing,
+        }
+    }
+
+    fn happen<R: Host, E: Entries, K: Sums, H: Sums>(
+        &self,
+        stage: &Stage<'_, R, E, K, H>,
+        seats: Seats<E, K, H>,
+    ) -> Option<Outcome<E, K, H>> {
+        act(stage, *self, seats)
+    }
 }
 
 /// Finishes a spool, of which a seat may be missing at first. Answers the last segment of the
@@ -85,9 +115,9 @@ struct Seen<E: SpoolLedger, K: Ledger, H: Ledger> {
 }
 
 /// Has it happen at this spool.
-fn see<R: Host, E: Entries, K: Sums, H: Sums>(
+fn see<R: Host, W: Happens, E: Entries, K: Sums, H: Sums>(
     rt: &R,
-    what: Script<'_>,
+    what: W,
     spool: &SharedSpool<E, K, H>,
     mut sessions: Vec<SessionSeat<E, K, H>>,
     printers: Vec<PrinterSeat<E, K, H>>,
@@ -98,17 +128,13 @@ fn see<R: Host, E: Entries, K: Sums, H: Sums>(
         sessions,
         printers,
     };
-    let (board, pair) = (Board::new(rt.alloc()), Pair::new());
+    let board = Board::new(rt.alloc());
     let stage = Stage {
         rt,
         board: &board,
-        pair: &pair,
         spool,
     };
-    let mut outcome = match what {
-        Script::Scene(scene) => act(&stage, scene, seats)?,
-        Script::Steps(steps) => wait_through(&stage, steps, seats)?,
-    };
+    let mut outcome = what.happen(&stage, seats)?;
     let seat = outcome.session_seats.last_mut()?;
     let pages = spool.pages_by_place(rt, seat);
     let held = spool.held(rt, seat);
@@ -124,7 +150,7 @@ fn see<R: Host, E: Entries, K: Sums, H: Sums>(
 /// Finishes the spool, and tells what came of all.
 fn report<E: SpoolLedger, K: Ledger, H: Ledger>(
     alloc: Global,
-    what: Script<'_>,
+    missing: Missing,
     spool: SharedSpool<E, K, H>,
     seen: Seen<E, K, H>,
 ) -> Option<Report> {
@@ -135,10 +161,6 @@ fn report<E: SpoolLedger, K: Ledger, H: Ledger>(
         printers,
         looks,
     } = seen.outcome;
-    let missing = match what {
-        Script::Scene(scene) => scene.missing,
-        Script::Steps(_) => Missing::Nothing,
-    };
     let (account, missed) = finish(alloc, spool, missing, session_seats, printer_seats)?;
     Some(Report {
         sessions,
@@ -157,10 +179,11 @@ fn report<E: SpoolLedger, K: Ledger, H: Ledger>(
 /// them drops it, and each drop is proved.
 fn happen_at<
     R: Host,
+    W: Happens,
     E: SpoolLedger + Send + Sync,
     K: Ledger + Send + Sync,
     H: Ledger + Send + Sync,
->(rt: &R, what: Script<'_>, config: Config, count: u32, blanks: Blanks) -> Option<Report>
+>(rt: &R, what: W, config: Config, count: u32, blanks: Blanks) -> Option<Report>
     requires { AreFor blanks config count E.config (mark E.name E.parts)
         (mark K.name K.parts) (mark H.name H.parts) }
 {
@@ -170,16 +193,18 @@ fn happen_at<
         printers,
     } = SharedSpool::<E, K, H>::new(rt.alloc(), blanks, config, count).ok()?;
     let seen = see(rt, what, &spool, sessions, printers)?;
-    report(rt.alloc(), what, spool, seen)
+    report(rt.alloc(), what.places().missing, spool, seen)
 }
 
 /// Has it happen at a spool of its own. None where memory is refused, a thread can't be made or a
 /// seat doesn't come back.
-pub fn happen<R: Host>(rt: &R, what: Script<'_>) -> Option<Report> {
-    let (sessions, printers, others) = match what {
-        Script::Scene(scene) => (scene.clients.len(), scene.devices.len(), ""),
-        Script::Steps(steps) => (sessions_in(steps), 2, PLOTTER),
-    };
+pub fn happen<R: Host, W: Happens>(rt: &R, what: W) -> Option<Report> {
+    let Places {
+        sessions,
+        printers,
+        others,
+        ..
+    } = what.places();
     let spool = Spool {
         printers: u32::try_from(printers).ok()?,
         others,
@@ -189,7 +214,7 @@ pub fn happen<R: Host>(rt: &R, what: Script<'_>) -> Option<Report> {
     let count = u32::try_from(sessions).ok()?.checked_add(1)?;
     let config = spool.config(rt.alloc())?;
     let blanks = Blanks::new(&config, count);
-    happen_at::<R, Brand, Brand, Brand>(rt, what, config, count, blanks)
+    happen_at::<R, W, Brand, Brand, Brand>(rt, what, config, count, blanks)
 }
 
 /// Has these sessions and printers act, with these cues, and gives what came of it: all marks came
@@ -206,7 +231,7 @@ pub fn play<R: Abort + Host>(
         cues,
         missing: Missing::Nothing,
     };
-    let report = happen(rt, Script::Scene(scene)).ok_or("no report")?;
+    let report = happen(rt, scene).ok_or("no report")?;
     report.is_quiet(rt, "a scene");
     Ok(report)
 }

@@ -1,10 +1,8 @@
 //! Sessions, workers and sinks that wait for one another.
 
-use crate::board::Mark;
-use crate::ends::{Client, Device, Hold};
-use crate::scene::Cue;
-use crate::stage::play;
-use crate::worked::{DATA, SERVED, STREAM, WHOLE, WORKS, served};
+use crate::threads::{
+    Client, Cue, DATA, Device, Hold, Mark, SERVED, STREAM, WHOLE, WORKS, play, served,
+};
 use lpd_values::Refusal;
 use session::SessionEnd;
 use shared_spool::Kind;

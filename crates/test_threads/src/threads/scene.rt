@@ -2,11 +2,10 @@
 
 ghost use Rattle.std.specs.Thread.{IsSend};
 
-use crate::board::{Board, Mark};
-use crate::ends::{Client, Device, Reader, Sink, Way, Writer};
-use crate::report::{PrinterReport, SessionReport};
-use crate::stage::PAGE_SIZE;
-use crate::turns::Pair;
+use super::board::{Board, Mark};
+use super::ends::{Client, Device, Reader, Sink, Way, Writer};
+use super::report::{PrinterReport, SessionReport};
+use super::stage::PAGE_SIZE;
 use printer_worker::work;
 use session::serve;
 use shared_spool::{Pages, PrinterSeat, SessionSeat, SharedSpool, SpoolLedger};
@@ -58,7 +57,6 @@ pub struct Scene<'a> {
 pub struct Stage<'a, R: Wait, E: SpoolLedger, K: Ledger, H: Ledger> {
     pub rt: &'a R,
     pub board: &'a Board,
-    pub pair: &'a Pair,
     pub spool: &'a SharedSpool<E, K, H>,
 }
 

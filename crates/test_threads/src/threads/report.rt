@@ -1,6 +1,6 @@
 //! What came of a scene.
 
-use crate::stage::{PAGE_SIZE, PAGES};
+use super::stage::{PAGE_SIZE, PAGES};
 use printer_worker::{Ending, WorkReport};
 use session::SessionEnd;
 use shared_spool::{Kind, Pages, Segment};

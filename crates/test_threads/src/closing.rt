@@ -1,11 +1,9 @@
 //! The close of the spool at every place.
 
-use crate::board::Mark;
-use crate::ends::{Client, Device, Hold};
-use crate::report::SessionReport;
-use crate::scene::Cue;
-use crate::stage::play;
-use crate::worked::{CALLED, STREAM, WHOLE, WORKS, WRITTEN_AT, reached, served};
+use crate::threads::{
+    CALLED, Client, Cue, Device, Hold, Mark, STREAM, SessionReport, WHOLE, WORKS, WRITTEN_AT, play,
+    reached, served,
+};
 use lpd_values::Refusal;
 use session::SessionEnd;
 use shared_spool::Kind;
