@@ -13,7 +13,7 @@ import subprocess
 import threading
 import time
 
-from client import answer, connect, free_port
+from client import answer, ask, connect, free_port
 from off import await_status
 from parking import Room, check_order, config, jobs_in, job, send
 from scene import check, main
@@ -162,22 +162,24 @@ def turned_aside_in_one_step():
 
 
 def removed_or_fed():
-    """A job that waits is removed while its queue is released: what is told as removed isn't printed. Planted: the file is removed behind the look at its line."""
+    """A job that waits is removed by its user while its queue is released: what is told as removed isn't printed. Planted: the file is removed behind the look at
+    its line, and not under the lock of that."""
     with Room(settings(1005)) as room:
+        # (nobody reads, so that a job which is fed stays)
+        os.mkfifo(room.path(1))
         room.start()
+        room.tell("hold", "q1")
+        check(send(room.port, 0, job("q1", 0, 0, 8_000), "q1", "127.0.0.9") == 0, "a job isn't taken")
         told = []
-        for number in range(ROUNDS):
-            room.tell("hold", "q1")
-            check(send(room.port, number, job("q1", 0, number), "q1", "127.0.0.9") == 0, "a job isn't taken")
-            removing = threading.Thread(target=lambda: told.append(room.tell("cancel", "file", str(number + 1))), daemon=True)
-            removing.start()
-            time.sleep(0.1)
-            room.tell("release", "q1")
-            removing.join(30)
-            room.await_files(0, 30)
-        check(len(told) == ROUNDS and all("removed file" in it for it in told), told)
-        check(not room.printed(1), f"printed: {room.printed(1)[:80]}")
-    return f"{ROUNDS} jobs removed, none printed"
+        removing = threading.Thread(target=lambda: told.append(ask(room.port, b"\x05q1 ann 0\n")[0]), daemon=True)
+        removing.start()
+        time.sleep(0.1)
+        room.tell("release", "q1")
+        removing.join(30)
+        check(told and b"removed 000 ann" in told[0], told)
+        seen = subprocess.run(["timeout", "2", "cat", room.path(1)], capture_output=True).stdout
+        check(not seen and not room.files(), f"printed: {seen[:80]}; {room.files()}")
+    return "removed, and not printed"
 
 
 def taken_out_or_begun():
