@@ -1,6 +1,6 @@
 //! The groups of rows.
 
-use crate::{cores, histories, joins, pieces, scripts, seats};
+use crate::{cores, pieces, scripts, seats};
 use std::alloc::AllocError;
 use std::sync::Wait;
 use test_kit::{Form, Group};
@@ -16,10 +16,6 @@ pub enum Calls {
     Scripts,
     /// Octets of a session, and what the program answers and prints for them, in any pieces.
     Pieces,
-    /// Worked histories and what the plain reader says after each entry.
-    Histories,
-    /// Histories, legal or not, and whether the plain reader finds that they leave joined after each entry.
-    Joins,
     /// Calls of a core and what they answer.
     Cores,
     /// Calls of a spool that threads share, and its account.
@@ -28,13 +24,11 @@ pub enum Calls {
 
 impl Calls {
     /// All groups.
-    pub const ALL: [Calls; 8] = [
+    pub const ALL: [Calls; 6] = [
         Calls::Configurations,
         Calls::Lines,
         Calls::Scripts,
         Calls::Pieces,
-        Calls::Histories,
-        Calls::Joins,
         Calls::Cores,
         Calls::Seats,
     ];
@@ -47,8 +41,6 @@ impl Group for Calls {
             Calls::Lines => ("lines", Form::Octets),
             Calls::Scripts => ("scripts", Form::Script),
             Calls::Pieces => ("pieces", Form::Octets),
-            Calls::Histories => ("histories", Form::Block),
-            Calls::Joins => ("joins", Form::Block),
             Calls::Cores => ("calls", Form::Block),
             Calls::Seats => ("seats", Form::Block),
         }
@@ -65,8 +57,6 @@ impl Group for Calls {
             Calls::Configurations => scripts::configuration(told, alloc, asked),
             Calls::Lines | Calls::Scripts => scripts::script(told, alloc, asked),
             Calls::Pieces => pieces::pieces(told, alloc, asked),
-            Calls::Histories => histories::history(told, alloc, asked),
-            Calls::Joins => joins::joins(told, alloc, asked),
             Calls::Cores => cores::calls(told, alloc, asked),
             Calls::Seats => seats::seats(told, rt, asked),
         }

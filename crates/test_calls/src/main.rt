@@ -1,4 +1,4 @@
-//! Rows of calls, scripts and histories: what is asked, and what has to be answered, in the files of `data/`.
+//! Rows of calls and scripts: what is asked, and what has to be answered, in the files of `data/`.
 //!
 //! Prints how many rows each group has, and a line for each row that is answered otherwise.
 #![tactic(auto)]
@@ -8,8 +8,6 @@ mod cores;
 mod desk;
 mod entries;
 mod groups;
-mod histories;
-mod joins;
 mod kept;
 mod pieces;
 mod scripts;

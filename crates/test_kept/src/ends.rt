@@ -9,7 +9,8 @@ use std::fs;
 use std::os::unix::fs::PermissionsExt;
 
 /// The octets `abcd` as a file of pages of 4,096 octets has them.
-const KEPT_OCTETS: &[u8; 96] = b"hurgwaye 2 00001000\nabcdsealed 99b51e51a3534507bb5886ccb4cedac63ea93aa13467863f6ca4ced5a823695b\n";
+const KEPT_OCTETS: &[u8; 96] =
+    b"hurgwaye 2 00001000\nabcdsealed 99b51e51a3534507bb5886ccb4cedac63ea93aa13467863f6ca4ced5a823695b\n";
 
 #[test]
 fn a_kept_job_is_there_and_goes_when_it_is_done(rt: HostRuntime) {

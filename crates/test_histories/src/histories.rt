@@ -12,7 +12,6 @@
 //! base. A line `rotated` has it go on from the base after it, and is refused where a job is held.
 
 use crate::entries::entry;
-use crate::scripts::CONFIG;
 use account::{Act, Base, Entry};
 use account_audit::check;
 use account_text::{parse_entry, write_entry};
@@ -20,6 +19,7 @@ use config_values::Config;
 use history_legality::{free_pages, is_legal, is_safe_now, leaves_joined, may};
 use history_reader::{Next, State, next_page, now, removal_text, rotated, state_text};
 use std::alloc::{AllocError, Global};
+use test_kit::Spool;
 use test_kit::rows::{number, short_number, word, words};
 
 /// What a history begins from, and its entries, the newest first.
@@ -196,11 +196,11 @@ pub fn history(told: &mut String, alloc: Global, asked: &str) -> Result<(), Allo
     let (config, rows) = match asked.split_once("%%\n") {
         Some((config, rows)) => {
             write!(told, "{config}%%\n")?;
-            (config, rows)
+            (spool_config::read(alloc, config.as_bytes()).ok(), rows)
         }
-        None => (CONFIG, asked),
+        None => (Spool::SMALL.config(alloc), asked),
     };
-    let Ok(config) = spool_config::read(alloc, config.as_bytes()) else {
+    let Some(config) = config else {
         return told.push_str("no configuration\n");
     };
     let mut account = Account {
