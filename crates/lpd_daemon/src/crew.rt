@@ -13,7 +13,7 @@ ghost use Rattle.server_house.specs.Lines.{TellsRotations};
 use log::Log;
 use lpd_commands::OctetWrite;
 use printer_devices::OpenedPlace;
-use server_board::{Board, Showing};
+use server_board::{Board, Presenter};
 use server_care::{Care, Counter};
 use server_clients::{Answering, Gate, Porter, announce_all};
 use server_feeding::{Feeding, watch};
@@ -99,7 +99,7 @@ fn close_spool<R: Files<File = File> + Clock + Log + Wait, E: HouseLedger>(
     hall.ending.close();
     hall.oversight.wake_steward();
     hall.close_shelf();
-    Showing { spool, hall }.end_showing();
+    Presenter { spool, hall }.end_showing();
 }
 
 impl<E: HouseLedger + Send + Sync> Crew<E> {
@@ -202,7 +202,7 @@ impl<E: HouseLedger + Send + Sync> Crew<E> {
         self.steward = thread.ok();
         self.is_whole &= self.steward.is_some();
         if let Some(board) = board {
-            let thread = scope.spawn(move || Showing { spool, hall }.show_all(board));
+            let thread = scope.spawn(move || Presenter { spool, hall }.show_all(board));
             self.is_whole &= keep(&mut self.seatless, thread);
         }
     }

@@ -6,4 +6,4 @@ mod drawn;
 mod showing;
 
 pub use board::{Board, open_board};
-pub use showing::Showing;
+pub use showing::Presenter;

@@ -71,12 +71,12 @@ fn numbers_of(alloc: Global, sight: &Sight) -> Result<Vec<u64>, AllocError> {
 
 /// Who shows how a server stands to whoever asks.
 #[derive(Drop)]
-pub struct Showing<'h, 'a, R, E: HouseLedger> {
+pub struct Presenter<'h, 'a, R, E: HouseLedger> {
     pub spool: &'h HouseSpool<E>,
     pub hall: &'h Hall<'a, R>,
 }
 
-impl<'h, 'a, R, E: HouseLedger> Showing<'h, 'a, R, E> {
+impl<'h, 'a, R, E: HouseLedger> Presenter<'h, 'a, R, E> {
     /// Who looks at how it stands.
     fn surveyor(&self) -> Surveyor<'h, 'a, R, E> {
         Surveyor {
@@ -93,7 +93,7 @@ impl<'h, 'a, R, E: HouseLedger> Showing<'h, 'a, R, E> {
     }
 }
 
-impl<R: Files<File = File> + Clock + Log + Wait, E: HouseLedger> Showing<'_, '_, R, E> {
+impl<R: Files<File = File> + Clock + Log + Wait, E: HouseLedger> Presenter<'_, '_, R, E> {
     /// The milliseconds since the server's start; none where the clock can't be read.
     fn uptime_ms(&self) -> u64 {
         let start = self.hall.oversight.start;

@@ -10,6 +10,7 @@ mod house;
 mod ledgers;
 mod lines;
 mod oversight;
+mod pace;
 mod posts;
 mod restarting;
 mod roles;

@@ -5,9 +5,9 @@
 //! is in the socket, and of the last read what no page has. A broken connection ends it at once. The waiting session is answered that its
 //! job isn't open, and ends as it would by any such answer: no contract of a session speaks of it.
 
-ghost use Rattle.std.specs.Int.NonZero.{non_zero_u64_get};
-ghost use Rattle.std.specs.Prelude.{◌≡◌, ◌↔◌, ◌<◌, ◌*◌, ◌-◌, ◌^◌, IsTrue, min, unwrap_or};
+ghost use Rattle.std.specs.Prelude.{◌≡◌, ◌<◌, ◌⊎◌, ◌-◌, ◌^◌, min, unwrap_or};
 
+use crate::pace::Pace;
 use connection_lobby::{Peer, PeerStanding, Visit, ask_peer, may_end, unread_octets};
 use server_notes::{milliseconds, milliseconds_between};
 use shared_spool::Waiting;
@@ -20,9 +20,6 @@ use std::rt::Clock;
 use std::sync::atomic::{AtomicU64, Ordering};
 use std::sync::{Mutex, Wait};
 use std::time::Instant;
-
-/// The time waited for a peer after which its pace is judged, in seconds.
-const JUDGED_AFTER_SECONDS: u64 = 60;
 
 /// A connection that is served.
 #[derive(Drop)]
@@ -111,8 +108,7 @@ impl Posts {
             post,
             slowest,
             start,
-            waited_ms: 0,
-            octets: 0,
+            pace: Pace::NONE,
         }
     }
 
@@ -200,14 +196,6 @@ fn standing_of(waiting: Waiting, unread: Option<usize>, last: u64, received: u64
     }
 }
 
-/// Whether a peer is too slow that sent `octets` octets in `seconds` seconds for which it was waited
-/// for, where it has to send `slowest` a second.
-fn is_too_slow(octets: u64, slowest: NonZeroU64, seconds: u64) -> bool
-    ensures { IsTrue result ↔ octets < min (non_zero_u64_get slowest * seconds) (2 ^ 64 - 1) }
-{
-    octets < slowest.get().saturating_mul(seconds)
-}
-
 /// The connection of a session, which counts what is read of it, and fails where its peer is too
 /// slow.
 #[derive(Drop)]
@@ -218,9 +206,8 @@ pub struct Meter<'a, R> {
     slowest: Option<NonZeroU64>,
     // The server's start, where it is noted when a peer is heard.
     start: Option<Instant>,
-    // For how many milliseconds its reads waited, and the octets that came by that.
-    waited_ms: u64,
-    octets: u64,
+    // What came of it while its reads waited.
+    pace: Pace,
 }
 
 impl<R: Clock> Meter<'_, R> {
@@ -237,21 +224,15 @@ impl<R: Clock> Meter<'_, R> {
 
     /// The peer was waited for since this moment, and sent `octets` octets. Whether it is too slow,
     /// where it has to send `slowest` a second.
-    fn is_slow(&mut self, start: Instant, octets: u64, slowest: NonZeroU64) -> bool {
+    fn is_slow(&mut self, start: Instant, octets: u64, slowest: NonZeroU64) -> bool
+        ensures { (self.new.pace.waited_ms < 60_000) ⊎ (self.new.pace ≡ self.old.pace) }
+    {
         let Ok(waited) = start.elapsed(self.rt) else {
             return false;
         };
-        let waited_ms = milliseconds(waited);
-        self.waited_ms = self.waited_ms.saturating_add(waited_ms);
-        self.octets = self.octets.saturating_add(octets);
-        let seconds = self.waited_ms / 1_000;
-        if seconds < JUDGED_AFTER_SECONDS {
-            return false;
-        }
-        let is_slow = is_too_slow(self.octets, slowest, seconds);
-        self.waited_ms = 0;
-        self.octets = 0;
-        is_slow
+        let pace = self.pace.and(milliseconds(waited), octets);
+        self.pace = pace.looked_at();
+        pace.is_slow(slowest)
     }
 }
 
