@@ -309,6 +309,9 @@ def folders():
         shutil.copy(f"{jobs}/job-0000000001", f"{jobs}/job-0000000010")
         told("added", 0, "not judged 1: file job-0000000010, which no job has\n", "$")
         again()
+        shutil.copy(f"{jobs}/job-0000000001", f"{jobs}/job-0000000006")
+        told("added right behind the last one", 0, "not judged 1: file job-0000000006, which no job has\n", "$")
+        again()
         # a name that is taken while a server runs
         room.start()
         with open(f"{jobs}/job-0000000006", "wb") as file:

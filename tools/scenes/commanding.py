@@ -104,6 +104,22 @@ def rotations_that_are_refused():
     return "six of each"
 
 
+def a_rotation_is_printed_at_once():
+    """A rotation that is asked for while nobody connects: its line is printed at once."""
+    with Room() as room:
+        room.start()
+        check(send(room.port, 1, b"x") == 0, "a job is taken")
+        until = time.monotonic() + 10
+        while "rotated" not in (told := room.tell("rotate")):
+            check(time.monotonic() < until, told)
+            time.sleep(0.1)
+        begun = time.monotonic()
+        while "\nrotated 1 entries " not in open(f"{room.folder}/said").read():
+            check(time.monotonic() < begun + 2, open(f"{room.folder}/said").read())
+            time.sleep(0.02)
+    return f"after {time.monotonic() - begun:.2f} s"
+
+
 def who_asked_and_went_gives_place():
     """More clients than there are places ask for a stop that waits for a job, and go before it is answered: others are heard all the same."""
     with Room() as room:
@@ -294,7 +310,7 @@ def many_syncs_wake_each():
         return f"{took:.1f} s"
 
 
-SCENES = (signals_that_stop, the_earlier_stop_holds, rotations_that_are_refused, who_asked_and_went_gives_place, clients_that_end_their_sending, descriptors_that_come_again,
+SCENES = (signals_that_stop, the_earlier_stop_holds, rotations_that_are_refused, a_rotation_is_printed_at_once, who_asked_and_went_gives_place, clients_that_end_their_sending, descriptors_that_come_again,
           no_octet_behind_a_stop_now, pauses_begin_anew_behind_a_page, many_syncs_wake_each)
 
 if __name__ == "__main__":

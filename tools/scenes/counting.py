@@ -90,6 +90,22 @@ def a_waiting_file_is_deleted():
         return f"within {took:.1f} s"
 
 
+def what_a_stop_leaves_is_counted():
+    """Files of jobs that wait are deleted just before a stop: it tells how many are left, and that the others are gone."""
+    with Counted() as desk:
+        desk.start()
+        desk.says("hold lp", "")
+        for number in (1, 2, 3):
+            desk.send(number, b"%d" % number)
+        desk.await_status("kept waiting 3 failed 0")
+        for number in (1, 3):
+            os.remove(f"{desk.kept}/{number}.job")
+        told = desk.tell("stop")
+        check("1 jobs wait in the folder for the next start" in told, told)
+        desk.await_log("the files of 2 jobs that waited are gone")
+    return "1 of 3"
+
+
 def a_job_whose_file_is_gone():
     """A job that the spool has is printed though its file is gone, and nobody is told that it is printed again."""
     with Counted() as desk:
@@ -314,7 +330,7 @@ def a_stop_behind_a_stop():
     return ", ".join(seen)
 
 
-SCENES = [a_failed_file_is_deleted, a_waiting_file_is_deleted, a_job_whose_file_is_gone, what_is_put_there_is_not_written_over, what_is_no_job_is_not_resent, a_lock_is_deleted, an_accounts_lock_is_deleted,
+SCENES = [a_failed_file_is_deleted, a_waiting_file_is_deleted, what_a_stop_leaves_is_counted, a_job_whose_file_is_gone, what_is_put_there_is_not_written_over, what_is_no_job_is_not_resent, a_lock_is_deleted, an_accounts_lock_is_deleted,
           numbers_that_no_job_has, a_temporary_that_is_a_folder, a_job_that_is_not_kept_is_logged_once, what_is_fed_is_not_lost, a_stop_behind_a_stop]
 
 

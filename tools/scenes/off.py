@@ -9,11 +9,12 @@ import contextlib
 import os
 import re
 import socket
+import struct
 import subprocess
 import threading
 import time
 
-from client import free_port
+from client import answer, connect, free_port
 from parking import QUEUES, Flood, Room, check_order, config, jobs_in, lines_of, send, job
 from scene import CHECKED, SHORT, check, main, size
 from trimming import files, told
@@ -62,7 +63,10 @@ class Printer(threading.Thread):
 
     def run(self):
         while True:
-            peer, _ = self.listener.accept()
+            try:
+                peer, _ = self.listener.accept()
+            except OSError:
+                return
             octets, is_cut = b"", False
             with peer, contextlib.suppress(OSError):
                 peer.settimeout(30)
@@ -377,6 +381,140 @@ def a_full_pipe():
     return "it gave way, and was printed once the pipe was read"
 
 
+def a_job_that_was_given_back_keeps_its_file():
+    """Jobs that were given back and are fed again have other numbers of acceptance than their files, and each keeps its file until it is printed or removed by
+    that."""
+    printer = Printer()
+    with Room(config(queues=2, pages=64, jobs=16, account=100_000, limit=20), f"--printer=1=socket://127.0.0.1:{printer.port}") as room:
+        room.start()
+        room.tell("hold", "q2")
+        for number in range(3):
+            check(send(room.port, number, job("q2", 0, number), "q2", "127.0.0.9") == 0, f"job {number} isn't taken")
+        for number in range(4):
+            check(send(room.port, number, job("q1", 0, number), "q1", "127.0.0.9") == 0, f"job {number} isn't taken")
+        await_status(room, "kept waiting 7 failed 0")
+        # (it is tried again with one)
+        await_status(room, " number 000 file 4 waits: printer 1 isn't reached")
+        check(len(room.files()) == 7, f"{sorted(room.files())}")
+        check("removed file 4 " in (said := room.tell("cancel", "file", "4")), said)
+        check(len(room.files()) == 6, f"{sorted(room.files())}")
+        printer.turn_on()
+        room.tell("release", "q2")
+        room.await_files(0, 120)
+        time.sleep(0.5)
+        check(jobs_in(b"".join(printer.jobs), "q1") == [(0, 1), (0, 2), (0, 3)], "the first queue's")
+        check(jobs_in(room.printed(2), "q2") == [(0, 0), (0, 1), (0, 2)], "the second queue's")
+    return "7 files beside a job that is tried again, one of them removed by its file"
+
+
+def one_of_two_printers_keeps_its_job():
+    """A queue of two printers that are off: the job at one of them leaves, that at the other stays, since a job of its sender still comes, and no job goes to
+    and fro meanwhile; once that has come and both are on all three are printed, each once."""
+    printers = [Printer(), Printer()]
+    words = [f"--printer={number}=socket://127.0.0.1:{it.port}" for number, it in enumerate(printers, 1)]
+    text = config(queues=2, pages=64, jobs=16, account=100_000, limit=20).replace("printers = 1", "printers = 2", 1)
+    with Room(text, *words, "--log-jobs") as room:
+        room.start()
+        for number in range(2):
+            check(send(room.port, number, job("q1", number, number), "q1", f"127.0.1.{number + 1}") == 0, f"job {number} isn't taken")
+        octets, text = job("q1", 1, 2), b"Hh1\nPann\nfdfA002h1\n"
+        with contextlib.closing(connect(room.port, "127.0.1.2")) as peer:
+            for line in (b"\x02q1\n", b"\x03%d dfA002h1\n" % len(octets)):
+                peer.sendall(line)
+                check(answer(peer) == 0, f"{line} isn't taken")
+            until = time.monotonic() + 20
+            while " put back in " not in room.log():
+                check(time.monotonic() < until, room.log()[-600:])
+                time.sleep(0.1)
+            time.sleep(3)
+            check(room.log().count(" put back in ") == 1, f"{room.log().count(' put back in ')} times within 3 s")
+            for line in (octets + b"\0", b"\x02%d cfA002h1\n" % len(text), text + b"\0"):
+                peer.sendall(line)
+                check(answer(peer) == 0, f"{line[:20]} isn't taken")
+        for printer in printers:
+            printer.turn_on()
+        room.await_files(0, 60)
+        time.sleep(0.5)
+        seen = [it for printer in printers for octets in printer.jobs for it in jobs_in(octets, "q1")]
+        check(sorted(seen) == [(0, 0), (1, 1), (1, 2)], f"{seen}: {room.log()[-600:]}")
+    return "all three once"
+
+
+def a_printer_that_failed_before():
+    """A printer fails amid a job, is started again, and is off then: it gives its jobs back, and is tried again by itself until it is on."""
+    printer, first = Printer(), socket.socket()
+    first.setsockopt(socket.SOL_SOCKET, socket.SO_REUSEADDR, 1)
+    first.setsockopt(socket.IPPROTO_TCP, socket.TCP_MAXSEG, 536)
+    first.setsockopt(socket.SOL_SOCKET, socket.SO_RCVBUF, 4096)
+    first.bind(("127.0.0.1", printer.port))
+    first.listen(1)
+    with Room(config(queues=2), f"--printer=1=socket://127.0.0.1:{printer.port}") as room:
+        room.start()
+        check(send(room.port, 0, job("q1", 0, 0, 8_000), "q1", "127.0.0.9") == 0, "a job isn't taken")
+        peer, _ = first.accept()
+        peer.recv(4096)
+        peer.setsockopt(socket.SOL_SOCKET, socket.SO_LINGER, struct.pack("ii", 1, 0))
+        first.close()
+        peer.close()
+        await_status(room, "printer 1 q1 stopped")
+        room.tell("start", "q1")
+        check(send(room.port, 1, job("q1", 0, 1), "q1", "127.0.0.9") == 0, "a job isn't taken")
+        told = await_status(room, "printer 1 q1 putoff ")
+        check("printer 1 q1 stopped" not in told, f"it is told as stopped: {told}")
+        printer.turn_on()
+        room.await_files(0, 40)
+        time.sleep(0.5)
+        check(jobs_in(b"".join(printer.jobs), "q1") == [(0, 1)], f"{printer.jobs}")
+    return "it was tried again by itself"
+
+
+def a_printer_that_goes_off():
+    """A printer prints a job and is switched off then: that it isn't reached with the next one is told at once, in the log and in `status`."""
+    printer = Printer()
+    with Room(config(queues=2), f"--printer=1=socket://127.0.0.1:{printer.port}") as room:
+        printer.turn_on()
+        room.start()
+        check(send(room.port, 0, job("q1", 0, 0), "q1", "127.0.0.9") == 0, "a job isn't taken")
+        room.await_files(0, 20)
+        # (who waits for a connection is woken by this)
+        printer.listener.shutdown(socket.SHUT_RDWR)
+        printer.listener.close()
+        check(send(room.port, 1, job("q1", 0, 1), "q1", "127.0.0.9") == 0, "a job isn't taken")
+        await_status(room, "printer 1 q1 unreached ", 2)
+        check("printer 1: job 2: 127.0.0.1" in room.log() and "refused" in room.log(), room.log()[-600:])
+    return "told at once"
+
+
+def a_pipe_that_is_read_in_part():
+    """A pipe whose reader halts amid a job for longer than a printer is waited for: the job isn't given back, and is printed once."""
+    with Room(config(queues=2, pages=256, jobs=16, account=100_000, limit=80)) as room:
+        os.mkfifo(room.path(1))
+        reader = os.open(room.path(1), os.O_RDONLY | os.O_NONBLOCK)
+        room.start()
+        octets = job("q1", 0, 0, 12_000)
+        check(send(room.port, 0, octets, "q1", "127.0.0.9") == 0, "a job isn't taken")
+        seen, until = b"", time.monotonic() + 20
+        while len(seen) < 30_000:
+            with contextlib.suppress(BlockingIOError):
+                seen += os.read(reader, 10_000)
+            check(time.monotonic() < until, f"{len(seen)} octets came")
+        until = time.monotonic() + 6
+        while time.monotonic() < until:
+            check("kept waiting 0 failed 0" in (told := room.tell("status")) and "putoff" not in told, told)
+            time.sleep(0.2)
+        until = time.monotonic() + 20
+        while room.files() or time.monotonic() < until - 19:
+            with contextlib.suppress(BlockingIOError):
+                seen += os.read(reader, 65_536)
+            check(time.monotonic() < until, f"{room.files()} is left")
+        with contextlib.suppress(BlockingIOError):
+            while piece := os.read(reader, 65_536):
+                seen += piece
+        os.close(reader)
+        check(seen == octets, f"{len(seen)} octets came of {len(octets)}")
+    return "it stayed, and was printed once"
+
+
 def patience_across_tries():
     """A job that isn't reached for `--patience` minutes in all fails, though it is tried again and again, and the one behind it has its own time."""
     printer = Printer()
@@ -391,14 +529,19 @@ def patience_across_tries():
         took = time.monotonic() - begun
         check(took > 55, f"failed after {took:.0f} s")
         check([os.path.basename(it) for it in room.files("failed")] == ["1.failed"] and len(room.files()) == 1, f"{room.files()} {room.files('failed')}")
-        printer.turn_on()
+        # The next one's time begins with its own first try.
         room.tell("start", "q1")
+        time.sleep(30)
+        check(len(room.files()) == 1, f"{room.files()} {room.files('failed')}")
+        printer.turn_on()
         room.await_files(0, 120)
+        check(len(room.files("failed")) == 1, f"{room.files('failed')}")
     return f"it failed after {took:.0f} s, and the one behind it was printed"
 
 
 SCENES = [a_pool_that_one_printer_could_fill, a_printer_that_gives_its_jobs_back, a_queue_of_two_printers, stops_beside_a_printer_that_is_off,
-          a_queue_that_is_held_amid_a_job, a_full_pipe, printers_that_are_off, killed_beside_printers_that_are_off]
+          a_queue_that_is_held_amid_a_job, a_full_pipe, a_job_that_was_given_back_keeps_its_file, one_of_two_printers_keeps_its_job, a_printer_that_failed_before,
+          a_printer_that_goes_off, a_pipe_that_is_read_in_part, printers_that_are_off, killed_beside_printers_that_are_off]
 
 
 if __name__ == "__main__":

@@ -21,6 +21,8 @@ from scene import CHECKED, PROGRAM, SHORT, check, main, size
 JOBS = size("JOBS", 20_000, 600)
 MANY = size("MANY", 50_000, 600)
 KILLS = size("KILLS", 20, 3)
+# How many jobs a start finds: reading whose they are takes some tenths of a second.
+FOUND = 6_000
 QUEUES = 20
 CLIENTS = 24
 HELD = ("q5", "q6")
@@ -443,6 +445,27 @@ def many_wait():
     return f"{MANY} jobs wait, {MANY / seconds:.0f} a second, at {each:.0f} octets each; lpq in {took:.2f} s; a start listens after {listened:.2f} s"
 
 
+def a_job_that_comes_before_all_are_read():
+    """A start finds thousands of whole jobs, and last of all one of a sender that sends another one for the same queue at once: that is printed behind it."""
+    with Room(config(queues=2)) as room:
+        os.mkdir(room.kept)
+        os.mkfifo(room.path(2))
+        for number in range(FOUND):
+            queue = "q2" if number + 1 < FOUND else "q1"
+            octets, text = job(queue, 0, number, 1), b"Hh1\nPann\nfdfA%03dh1\n" % (number % 1000)
+            with open(f"{room.kept}/{number + 1}.job", "wb") as file:
+                file.write(b"hurgwaye 1 7f000009\n\x02%s\n\x03%d dfA%03dh1\n" % (queue.encode(), len(octets), number % 1000) + octets
+                           + b"\0\x02%d cfA%03d\n" % (len(text), number % 1000) + text + b"\0")
+        room.start()
+        check(send(room.port, 999, job("q1", 0, FOUND, 1), "q1", "127.0.0.9") == 0, "a job isn't taken")
+        until = time.monotonic() + 30
+        while len(seen := jobs_in(room.printed(1), "q1")) < 2:
+            check(time.monotonic() < until, f"{seen} are printed")
+            time.sleep(0.05)
+        check(seen == [(0, FOUND - 1), (0, FOUND)], f"{seen}")
+    return f"behind the last one of {FOUND} jobs"
+
+
 def removals_amid_feeding():
     """Jobs are removed by their files while they are fed, one after another: each is removed or printed, and none is told to ask again."""
     count = size("REMOVED", 2_000, 200)
@@ -616,5 +639,5 @@ def one_queue_holds_up_no_other():
 
 
 if __name__ == "__main__":
-    raise SystemExit(main((a_queue_is_held, holds_outlive_a_restart, removed_while_they_wait, removals_amid_feeding, refused_as_any_other, pages_by_file, a_file_that_is_gone, no_session_waits,
+    raise SystemExit(main((a_queue_is_held, holds_outlive_a_restart, removed_while_they_wait, a_job_that_comes_before_all_are_read, removals_amid_feeding, refused_as_any_other, pages_by_file, a_file_that_is_gone, no_session_waits,
                            one_queue_holds_up_no_other, killed_amid_it, many_wait, parts_without_a_folder, a_site), __doc__))

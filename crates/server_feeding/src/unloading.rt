@@ -95,6 +95,7 @@ impl fmt::Display for Why {
 struct LeavingQueue<'o> {
     number: u32,
     place: usize,
+    why: Why,
     /// The jobs that its printers offer.
     offered: &'o [OfferedJob],
 }
@@ -115,6 +116,16 @@ impl LeavingQueue<'_> {
         job.queue == self.number
             && leaves(self.offered, job)
             && self.lets_go(jobs, lines, job.sender)
+    }
+
+    /// Whether these jobs may leave it: where its printers aren't reached, only with a job that one of them offers. Else the others would be fed
+    /// again at once, and leave again at the next look.
+    fn may_leave(&self, leaving: &[u64]) -> bool {
+        !matches!(self.why, Why::Unreached(_))
+            || self
+                .offered
+                .iter()
+                .any(|offer| leaving.contains(&offer.job))
     }
 }
 
@@ -180,6 +191,9 @@ impl<'h, 'a, R: Files<File = File> + Clock + Log + Wait, E: HouseLedger> Unloadi
             if queue.has_leaving(jobs, lines, job) {
                 leaving.push(job.number)?;
             }
+        }
+        if !queue.may_leave(leaving.as_slice()) {
+            return Ok(Vec::new(alloc));
         }
         let name = hall.oversight.config.name_of(queue.number);
         let removed = self.spool.remove_jobs(rt, seat, name, leaving.as_slice());
@@ -252,6 +266,7 @@ impl<'h, 'a, R: Files<File = File> + Clock + Log + Wait, E: HouseLedger> Unloadi
         let leaving = LeavingQueue {
             number: queue,
             place,
+            why,
             offered: offered.as_slice(),
         };
         let left = self.take_out(kept, seat, &mut lines, &leaving)?;
