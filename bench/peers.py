@@ -30,7 +30,7 @@ import time
 
 LIMIT = 30.0  # seconds that a client waits for one answer
 KIB, MIB = 1024, 1024 * 1024
-HOSTS = 16
+HOSTS = 32
 SET_PIPE_SIZE = 1031
 
 
@@ -190,6 +190,10 @@ class Peer:
                     most = max(most, int(found[1]) * KIB if found else 0)
         return most
 
+    def queues(self):
+        """The names of its queues: in the row `off` the second one's printer is on the network, and off at first."""
+        return ("lp", "off") if self.sizes == "off" else ("lp",)
+
     def make(self):
         pass
 
@@ -200,7 +204,11 @@ SIZES = {
     "whole": (4096, 4096, 40, 4_000_000),
     "large": (1200, 65536, 1100, 16_000_000),
     "half": (610, 65536, 130, 4_000_000),
+    "off": (2048, 4096, 1, 1_000_000),
 }
+
+# The port of the printer that is off, of a second queue in the row `off`.
+OFF_PORT = 9100
 
 
 class Ours(Peer):
@@ -212,12 +220,13 @@ class Ours(Peer):
 
     def make(self):
         pages, size, limit, account = SIZES[self.sizes]
-        write(f"{self.folder}/spool.toml", f"pages = {pages}\npage_size = {size}\nmax_jobs = 1024\naccount = {account}\n"
-              f'[[queue]]\nname = "lp"\nlimit = {limit}\nprinters = 1\n')
+        queues = "".join(f'[[queue]]\nname = "{name}"\nlimit = {limit}\nprinters = 1\n' for name in self.queues())
+        write(f"{self.folder}/spool.toml", f"pages = {pages}\npage_size = {size}\nmax_jobs = 1024\naccount = {account}\n{queues}")
 
     def begin(self):
-        self.run(PROGRAM, "serve", f"{self.folder}/spool.toml", "--port", "515", "--out", self.folder, "--sessions", "16", "--keep-room",
-                 "--printer", f"1=file:{self.sink.path}", *self.words)
+        off = ["--printer", f"2=socket://127.0.0.1:{OFF_PORT}"] if self.sizes == "off" else []
+        self.run(PROGRAM, "serve", f"{self.folder}/spool.toml", "--port", "515", "--out", self.folder, "--sessions", str(SESSIONS), "--keep-room",
+                 "--printer", f"1=file:{self.sink.path}", *off, *self.words)
 
 
 class Kept(Ours):
@@ -231,8 +240,10 @@ class Lprng(Peer):
         shutil.copytree(f"{self.unpacked}/lprng/etc/lprng", "/etc/lprng", dirs_exist_ok=True)
         write("/etc/lprng/lpd.conf", "lpd_listen_port=515\n")
         write("/etc/lprng/lpd.perms", "DEFAULT ACCEPT\n")  # (Debian's lets in this machine's own address alone)
-        write("/etc/printcap", f"lp:lp={self.sink.path}:sd=/var/spool/lpd/lp:mx=0:sh\n")
-        os.makedirs("/var/spool/lpd/lp")
+        write("/etc/printcap", f"lp:lp={self.sink.path}:sd=/var/spool/lpd/lp:mx=0:sh\n" + (
+              f"off:lp=127.0.0.1%{OFF_PORT}:sd=/var/spool/lpd/off:mx=0:sh\n" if self.sizes == "off" else ""))
+        for name in self.queues():
+            os.makedirs(f"/var/spool/lpd/{name}")
         write("/var/log/lprng/lpd.log", "")
         os.makedirs("/run/lprng")
         subprocess.run([f"{self.unpacked}/lprng/usr/sbin/checkpc", "-f"], stdout=subprocess.DEVNULL, stderr=subprocess.DEVNULL, timeout=30)
@@ -245,11 +256,13 @@ class Bsd(Peer):
     name, package, main = "BSD lpd", "lpr", "lpr/usr/sbin/lpd"
 
     def make(self):
-        write("/etc/printcap", f"lp:lp={self.sink.path}:sd=/var/spool/lpd/lp:mx#0:sh:sf:\n")
-        os.makedirs("/var/spool/lpd/lp")
+        write("/etc/printcap", f"lp:lp={self.sink.path}:sd=/var/spool/lpd/lp:mx#0:sh:sf:\n" + (
+              f"off:lp={OFF_PORT}@127.0.0.1:sd=/var/spool/lpd/off:mx#0:sh:sf:\n" if self.sizes == "off" else ""))
+        for name in self.queues():
+            os.makedirs(f"/var/spool/lpd/{name}")
+            shutil.chown(f"/var/spool/lpd/{name}", "lp", "lp")
+            os.chmod(f"/var/spool/lpd/{name}", 0o2775)
         shutil.chown("/var/spool/lpd", "root", "lp")
-        shutil.chown("/var/spool/lpd/lp", "lp", "lp")
-        os.chmod("/var/spool/lpd/lp", 0o2775)
 
     def begin(self):
         self.run(f"{self.unpacked}/lpr/usr/sbin/lpd")
@@ -265,6 +278,7 @@ class Cups(Peer):
             shutil.copytree(f"{self.unpacked}/cups/usr/lib/cups", programs, dirs_exist_ok=True)
             # (cupsd sends a raw job to no `file:` device)
             write(f"{programs}/backend/pipe", '#!/bin/sh\nexec cat "$6" > "${DEVICE_URI#pipe://}"\n', 0o755)
+            write(f"{programs}/backend/port", f'#!/bin/bash\nexec 3<> /dev/tcp/127.0.0.1/{OFF_PORT} || exit 1\ncat "$6" >&3\n', 0o755)
         os.makedirs("/var/spool/cups/tmp")
         os.chmod("/var/spool/cups", 0o710)
         os.chmod("/var/spool/cups/tmp", 0o1777)
@@ -279,8 +293,9 @@ class Cups(Peer):
         write(f"{folder}/cupsd.conf", "LogLevel warn\nMaxLogSize 0\nMaxJobs 0\nListen 127.0.0.1:631\nListen /run/cups/cups.sock\nBrowsing Off\n"
               "DefaultAuthType None\nMaxClients 500\n<Location />\nOrder allow,deny\nAllow all\n</Location>\n"
               "<Policy default>\n<Limit All>\nOrder allow,deny\nAllow all\n</Limit>\n</Policy>\n")
-        write(f"{folder}/printers.conf", f"<DefaultPrinter lp>\nDeviceURI pipe://{self.sink.path}\nState Idle\nAccepting Yes\nShared Yes\n"
-              "JobSheets none none\nErrorPolicy retry-job\nOpPolicy default\n</DefaultPrinter>\n", 0o600)
+        how = "State Idle\nAccepting Yes\nShared Yes\nJobSheets none none\nErrorPolicy retry-job\nOpPolicy default\n"
+        off = f"<Printer off>\nDeviceURI port://127.0.0.1\n{how}</Printer>\n" if self.sizes == "off" else ""
+        write(f"{folder}/printers.conf", f"<DefaultPrinter lp>\nDeviceURI pipe://{self.sink.path}\n{how}</DefaultPrinter>\n{off}", 0o600)
         write(f"{folder}/inetd.conf", f"printer stream tcp nowait.60000 root {programs}/daemon/cups-lpd cups-lpd -n\n")
         write("/etc/services", "printer 515/tcp\n")
 
@@ -344,11 +359,11 @@ def control_line(number, text, host="h1"):
     return f"\x02{len(text)} cfA{number:03}{host}\n".encode()
 
 
-def send(address, number, octets, limit=LIMIT, pause=None):
+def send(address, number, octets, limit=LIMIT, pause=None, queue=b"lp"):
     """Sends a job, and pauses in the middle of its data where that is wanted. False where it isn't acknowledged."""
     try:
         with contextlib.closing(connect(address, limit)) as peer:
-            tell(peer, b"\x02lp\n")
+            tell(peer, b"\x02%s\n" % queue)
             tell(peer, data_line(number, len(octets)))
             half = len(octets) // 2 if pause else 0
             if pause:
@@ -381,29 +396,29 @@ def together(count, work):
 
 # The rows
 
-JOBS, CLIENTS = 500, 8
+JOBS, CLIENTS, SESSIONS = 500, 8, 16
 
 
 def small_job(client, number):
     return f"<{client:02}-{number:03}>".encode().ljust(KIB - 1, b".") + b"\n"
 
 
-def start_clients(peer):
+def start_clients(peer, clients):
     """A process for each client, all of which begin at once. Answers them, and when that was."""
     ready, start = os.pipe(), os.pipe()
     children = []
-    for client in range(CLIENTS):
+    for client in range(clients):
         child = os.fork()
         if child == 0:
             os.close(start[1])
             os.write(ready[1], b".")
             os.read(start[0], 1)
-            for number in range(client, JOBS, CLIENTS):
+            for number in range(client, JOBS, clients):
                 send(peer.host(client), number, small_job(client, number))
             os._exit(0)
         children.append(child)
     came = 0
-    while came < CLIENTS:
+    while came < clients:
         came += len(os.read(ready[0], 64))
     os.close(start[1])
     begun = time.monotonic()
@@ -412,11 +427,11 @@ def start_clients(peer):
     return children, begun
 
 
-def small(peer):
-    """500 jobs of 1 KiB from 8 clients, each a process with an address of its own that sends its jobs one after another over a connection
+def small(peer, clients=CLIENTS):
+    """500 jobs of 1 KiB from 8 clients (`small-32`: 32), each a process with an address of its own that sends its jobs one after another over a connection
     each. Answers how many were printed, how many a second from the start of the first to the last octet at the printer, and how many came
     out behind a job that the same client sent later."""
-    children, begun = start_clients(peer)
+    children, begun = start_clients(peer, clients)
     peer.sink.wait(lambda data: len(data) >= JOBS * KIB, 100, quiet=15)
     for child in children:
         while os.waitpid(child, os.WNOHANG)[0] == 0:
@@ -429,6 +444,51 @@ def small(peer):
         behind += number < latest.get(client, -1)
         latest[client] = max(number, latest.get(client, -1))
     return {"printed": len(set(found)), "rate": len(set(found)) / max(peer.sink.last - begun, 1e-9), "behind": behind}
+
+
+class NetworkPrinter(threading.Thread):
+    """A printer on the network, which keeps what each connection sends."""
+
+    def __init__(self):
+        super().__init__(daemon=True)
+        self.listener, self.data = socket.socket(), bytearray()
+        self.listener.setsockopt(socket.SOL_SOCKET, socket.SO_REUSEADDR, 1)
+        self.listener.bind(("127.0.0.1", OFF_PORT))
+        self.listener.listen(64)
+        self.start()
+
+    def run(self):
+        with contextlib.suppress(OSError):
+            while True:
+                peer, _ = self.listener.accept()
+                with peer:
+                    peer.settimeout(20)
+                    while piece := peer.recv(65536):
+                        self.data += piece
+
+    def end(self):
+        with contextlib.suppress(OSError):
+            self.listener.shutdown(socket.SHUT_RDWR)
+        self.listener.close()
+
+
+OFF_JOBS = 50
+
+
+def off(peer):
+    """50 jobs for a second queue whose printer refuses connections, three seconds, and then what `small` does; then that printer is on for a minute. Answers
+    also how many of the 50 were acknowledged, and how many were printed then."""
+    taken = sum(send(peer.host(20), number, small_job(20, number), queue=b"off") for number in range(OFF_JOBS))
+    time.sleep(3)
+    told = small(peer)
+    printer = NetworkPrinter()
+    until = time.monotonic() + 60
+    count = lambda: len(set(re.findall(rb"<20-(\d\d\d)>", bytes(printer.data))))
+    while count() < taken and time.monotonic() < until:
+        time.sleep(0.1)
+    told.update({"acknowledged for the one off": taken, "printed once it is on": count()})
+    printer.end()
+    return told
 
 
 def large(peer):
@@ -444,7 +504,7 @@ def large(peer):
 
 
 def half(peer):
-    """16 jobs of 8 MiB come at once from as many addresses, in room for 40 MB: each stops in its middle for four seconds, or for as long as
+    """16 jobs of 8 MiB come at once from as many addresses, in room for 40 MB, on disk too (`half-200`: 200 MB there): each stops in its middle for four seconds, or for as long as
     the server takes nothing of it, and then goes on. Nobody sends again what was refused. Answers how many were printed whole."""
     jobs = [f"<{number:02}>".encode() * (2 * MIB) for number in range(16)]
     sent = together(16, lambda number: send(peer.host(number), number, jobs[number], LIMIT, lambda: time.sleep(4)))
@@ -557,14 +617,17 @@ def memory(peer, row):
 ROWS = {
     "small": (small, {}),
     "large": (large, {"sizes": "large"}),
+    "small-32": (lambda peer: small(peer, 32), {}),
+    "off": (off, {"sizes": "off"}),
     "half": (half, {"megabytes": 40, "sizes": "half"}),
+    "half-200": (half, {"megabytes": 200, "sizes": "half"}),
     "broken": (broken, {"sizes": "whole"}),
     "killed": (killed, {"sizes": "whole"}),
     "killed-late": (lambda peer: killed(peer, 40), {"sizes": "whole"}),
     "memory": (lambda peer: memory(peer, small), {}),
     "memory-large": (lambda peer: memory(peer, large), {"sizes": "large"}),
 }
-REPEATED = ("small", "large")
+REPEATED = ("small", "small-32", "large", "off")
 LATE = ("cups-lpd",)  # whose jobs are on the disk half a minute after they were acknowledged
 
 
@@ -591,6 +654,19 @@ def prepare(options, room):
     return unpacked
 
 
+def sync_ms(room):
+    """How many milliseconds the disk's own sync takes, of a file of 1 KiB that is appended to: the median of 200."""
+    took = []
+    with open(f"{room}/synced", "wb", buffering=0) as file:
+        for _ in range(200):
+            file.write(b"x" * KIB)
+            begun = time.monotonic()
+            os.fdatasync(file.fileno())
+            took.append((time.monotonic() - begun) * 1000)
+    os.remove(f"{room}/synced")
+    return statistics.median(took)
+
+
 def take(row, turn, peer, options, figures):
     """Runs a row with a server that is new, and says what came of it."""
     work, how = ROWS[row]
@@ -612,6 +688,7 @@ def inside(options):
     """All turns, in namespaces of their own."""
     with tempfile.TemporaryDirectory(dir=os.environ.get("ROOM", "/var/tmp")) as room:
         unpacked = prepare(options, room)
+        print(f"a sync of the disk takes {sync_ms(room):.2f} ms", flush=True)
         wanted = options.peers.split(",") if options.peers else []
         peers = [kind(unpacked, room) for kind in (Ours, Kept, Lprng, Bsd, Cups) if not wanted or kind.name in wanted]
         for peer in peers:

@@ -15,7 +15,7 @@ import threading
 import time
 
 from client import answer, connect, control, free_port, send, together
-from keeping import CONFIG, Room
+from keeping import CONFIG, Room, small_disk
 from scene import CHECKED, PROGRAM, check, main
 
 
@@ -118,6 +118,45 @@ def a_rotation_is_printed_at_once():
             check(time.monotonic() < begun + 2, open(f"{room.folder}/said").read())
             time.sleep(0.02)
     return f"after {time.monotonic() - begun:.2f} s"
+
+
+def segments_that_wait():
+    """While the disk of the account is full two segments wait for it beside the one in hand, and no more rotation is done; where room is kept, jobs go on until the account is full
+    too. A stop ends all the same, soon, and so does one that is asked for at once."""
+    ended = []
+    for keeps in (False, True):
+        with Room() as room, small_disk(f"{room.folder}/disk", 1):
+            plain = [word for word in room.line() if word not in ("--spool", room.kept)] + ["--account", f"{room.folder}/disk/account"]
+            room.line = lambda: [word for word in plain if keeps or word != "--keep-room"]
+            room.start()
+            with open(f"{room.folder}/disk/filler", "wb") as file, contextlib.suppress(OSError):
+                file.write(b"x" * (1 << 21))
+            answers = []
+            for number in range(40):
+                answers.append(send(room.port, number, b"x" * 100))
+                told = room.tell("rotate")
+                for _ in range(20):
+                    if "JobsHeld" not in told:
+                        break
+                    time.sleep(0.05)
+                    told = room.tell("rotate")
+                if "rotated" not in told:
+                    break
+                # (who writes them takes one)
+                time.sleep(0.3)
+            check(number <= 3 and "segments of the account wait" in told, f"{number} segments wait: {told}")
+            if keeps:
+                # (who keeps room waits for a place once the account has none)
+                number = 0
+                while send(room.port, number % 1000, b"x" * 100) == 0:
+                    number += 1
+                    check(number < 4_000, "each job is taken")
+            begun = time.monotonic()
+            room.tell("stop", *(("now",) if keeps else ()))
+            room.server.wait(30)
+            ended.append(time.monotonic() - begun)
+            check(ended[-1] < 15, f"a stop took {ended[-1]:.1f} s")
+    return f"as many as may; stops took {ended[0]:.1f} and {ended[1]:.1f} s"
 
 
 def who_asked_and_went_gives_place():
@@ -310,7 +349,7 @@ def many_syncs_wake_each():
         return f"{took:.1f} s"
 
 
-SCENES = (signals_that_stop, the_earlier_stop_holds, rotations_that_are_refused, a_rotation_is_printed_at_once, who_asked_and_went_gives_place, clients_that_end_their_sending, descriptors_that_come_again,
+SCENES = (signals_that_stop, the_earlier_stop_holds, rotations_that_are_refused, a_rotation_is_printed_at_once, segments_that_wait, who_asked_and_went_gives_place, clients_that_end_their_sending, descriptors_that_come_again,
           no_octet_behind_a_stop_now, pauses_begin_anew_behind_a_page, many_syncs_wake_each)
 
 if __name__ == "__main__":

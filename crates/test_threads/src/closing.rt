@@ -8,20 +8,19 @@ use lpd_values::Refusal;
 use session::SessionEnd;
 use shared_spool::Kind;
 use std::process::Abort;
-use std::test::Fail;
 use test_kit_seats::Host;
 
 /// The spool is closed when so many octets of the stream of one job have come: the session writes octets
 /// 00 for what came before, and then an octet 02, the page that was lent comes back, and the worker that waits ends.
 #[test]
-fn the_spool_is_closed_after_each_octet(rt: HostRuntime) -> Result<(), Fail> {
+fn the_spool_is_closed_after_each_octet(rt: HostRuntime) {
     for octets in 0..STREAM.len() {
         let client = Client {
             stops: Some(octets),
             ..served(1, STREAM)
         };
         let cues = [Cue::Await(Mark::Came(0, octets)), Cue::Close];
-        let report = play(&rt, &[client], &[WORKS], &cues)?;
+        let report = play(&rt, &[client], &[WORKS], &cues);
         let (refusal, written): (Refusal, &[u8]) = match octets {
             0..4 => (Refusal::Closed, &[2]),
             4..17 => (Refusal::Closed, &[0, 2]),
@@ -36,9 +35,8 @@ fn the_spool_is_closed_after_each_octet(rt: HostRuntime) -> Result<(), Fail> {
         } else {
             &[Kind::Closed]
         };
-        report.has_kinds(&rt, rt.alloc(), head, last)?;
+        report.has_kinds(&rt, rt.alloc(), head, last);
     }
-    Ok(())
 }
 
 /// Until the close, before the first page.
@@ -76,11 +74,7 @@ struct Place<'a> {
 impl Place<'_> {
     /// The first session's job is printed, and the spool is closed there; what comes of a second
     /// session, where there is one.
-    fn comes_to<R: Abort + Host>(
-        &self,
-        rt: &R,
-        second: Option<(Client<'_>, SessionEnd, &[u8])>,
-    ) -> Result<(), Fail> {
+    fn comes_to<R: Abort + Host>(&self, rt: &R, second: Option<(Client<'_>, SessionEnd, &[u8])>) {
         let (client, end, written) = second.unwrap_or((served(2, b""), SessionEnd::Closed, b""));
         let await_and_close = [Cue::Await(self.after.unwrap_or(Mark::Over)), Cue::Close];
         let cues = if self.after.is_some() {
@@ -88,17 +82,17 @@ impl Place<'_> {
         } else {
             &[]
         };
-        let report = play(rt, &[served(1, STREAM), client], &[self.device], cues)?;
+        let report = play(rt, &[served(1, STREAM), client], &[self.device], cues);
         report.has_session(rt, 0, SessionEnd::Closed, &[0; 5]);
         report.has_session(rt, 1, end, written);
         let head = &WHOLE[..self.entries.min(WHOLE.len())];
-        report.has_kinds(rt, rt.alloc(), head, self.last)
+        report.has_kinds(rt, rt.alloc(), head, self.last);
     }
 }
 
 /// Before and after each page is handed and comes back.
 #[test]
-fn the_spool_is_closed_beside_each_page(rt: HostRuntime) -> Result<(), Fail> {
+fn the_spool_is_closed_beside_each_page(rt: HostRuntime) {
     let (printer, pages) = (0, 1);
     let places = [
         Place {
@@ -139,14 +133,13 @@ fn the_spool_is_closed_beside_each_page(rt: HostRuntime) -> Result<(), Fail> {
         },
     ];
     for place in places.iter() {
-        place.comes_to(&rt, None)?;
+        place.comes_to(&rt, None);
     }
-    Ok(())
 }
 
 /// Before and after a job is removed whose page is at the printer, and after that page is back.
 #[test]
-fn the_spool_is_closed_beside_a_removal(rt: HostRuntime) -> Result<(), Fail> {
+fn the_spool_is_closed_beside_a_removal(rt: HostRuntime) {
     let removal = served(2, b"\x05lp ann 001\n");
     let late = Client {
         stops: Some(0),
@@ -166,14 +159,14 @@ fn the_spool_is_closed_beside_a_removal(rt: HostRuntime) -> Result<(), Fail> {
         last: &[Kind::Closed, Kind::Printed],
     };
     let refused = SessionEnd::Refused(Refusal::Closed);
-    held.comes_to(&rt, Some((late, refused, &[2])))?;
+    held.comes_to(&rt, Some((late, refused, &[2])));
     let told = b"removed 001 ann\n";
     let removed = Place {
         after: Some(Mark::Ended(1)),
         last: &[Kind::Removed, Kind::Closed, Kind::Printed],
         ..held
     };
-    removed.comes_to(&rt, Some((timely, SessionEnd::Finished, told)))?;
+    removed.comes_to(&rt, Some((timely, SessionEnd::Finished, told)));
     let back = Place {
         device: Device {
             holds: WHEN_REMOVED,
@@ -183,12 +176,12 @@ fn the_spool_is_closed_beside_a_removal(rt: HostRuntime) -> Result<(), Fail> {
         last: &[Kind::Removed, Kind::Printed, Kind::Closed],
         ..held
     };
-    back.comes_to(&rt, Some((timely, SessionEnd::Finished, told)))
+    back.comes_to(&rt, Some((timely, SessionEnd::Finished, told)));
 }
 
 /// Before and after a page fails, and after its printer is started.
 #[test]
-fn the_spool_is_closed_beside_a_failure(rt: HostRuntime) -> Result<(), Fail> {
+fn the_spool_is_closed_beside_a_failure(rt: HostRuntime) {
     let start = served(2, b"\x01lp\n");
     let late = Client {
         stops: Some(0),
@@ -208,7 +201,7 @@ fn the_spool_is_closed_beside_a_failure(rt: HostRuntime) -> Result<(), Fail> {
         entries: 9,
         last: &[Kind::Closed, Kind::Failed],
     };
-    held.comes_to(&rt, None)?;
+    held.comes_to(&rt, None);
     let refused = SessionEnd::Refused(Refusal::Closed);
     let failed = Place {
         device: failing,
@@ -216,13 +209,13 @@ fn the_spool_is_closed_beside_a_failure(rt: HostRuntime) -> Result<(), Fail> {
         last: &[Kind::Failed, Kind::Closed],
         ..held
     };
-    failed.comes_to(&rt, Some((late, refused, &[2])))?;
+    failed.comes_to(&rt, Some((late, refused, &[2])));
     let started = Place {
         after: None,
         last: &[Kind::Failed, Kind::Started, Kind::Closed],
         ..failed
     };
-    started.comes_to(&rt, Some((timely, SessionEnd::Finished, b"")))
+    started.comes_to(&rt, Some((timely, SessionEnd::Finished, b"")));
 }
 
 /// The session wrote octets 00 and, where the close refused it something, an octet 02.
@@ -239,13 +232,8 @@ fn was_cut(session: &SessionReport) -> bool {
 }
 
 /// The spool is closed when so many octets of a session have come. All its pages come back.
-fn closes_at<R: Abort + Host>(
-    rt: &R,
-    clients: &[Client<'_>],
-    session: usize,
-    octets: usize,
-) -> Result<(), Fail> {
-    let mut clients = Vec::from_slice(rt.alloc(), clients)?;
+fn closes_at<R: Abort + Host>(rt: &R, clients: &[Client<'_>], session: usize, octets: usize) {
+    let mut clients = Vec::from_slice(rt.alloc(), clients).expect(rt, "memory");
     if let Some(client) = clients.get_mut(session) {
         client.stops = Some(octets);
     }
@@ -254,16 +242,15 @@ fn closes_at<R: Abort + Host>(
         ..WORKS
     };
     let cues = [Cue::Await(Mark::Came(session, octets)), Cue::Close];
-    let report = play(rt, clients.as_slice(), &[device], &cues)?;
+    let report = play(rt, clients.as_slice(), &[device], &cues);
     for session in report.sessions.iter() {
         assert!(rt; was_cut(session), "{:?}", session.end);
     }
-    Ok(())
 }
 
 /// Two sessions in the middle of jobs of three pages, of one sender and of two.
 #[test]
-fn two_half_received_jobs_are_closed(rt: HostRuntime) -> Result<(), Fail> {
+fn two_half_received_jobs_are_closed(rt: HostRuntime) {
     let octets = 25;
     let first = Client {
         stops: Some(octets),
@@ -278,11 +265,10 @@ fn two_half_received_jobs_are_closed(rt: HostRuntime) -> Result<(), Fail> {
         ..second
     };
     for octets in 0..=octets {
-        closes_at(&rt, &[first, second], 0, octets)?;
-        closes_at(&rt, &[first, second], 1, octets)?;
-        closes_at(&rt, &[first, of_another], 1, octets + 8)?;
+        closes_at(&rt, &[first, second], 0, octets);
+        closes_at(&rt, &[first, second], 1, octets);
+        closes_at(&rt, &[first, of_another], 1, octets + 8);
     }
-    Ok(())
 }
 
 /// A session that sends a job of one page.
@@ -292,7 +278,7 @@ const ONE_PAGE: &[u8] =
 /// A job whose page is at the printer, one that waits, and one that is being received: the spool is
 /// closed after each octet of each.
 #[test]
-fn jobs_on_their_way_are_closed(rt: HostRuntime) -> Result<(), Fail> {
+fn jobs_on_their_way_are_closed(rt: HostRuntime) {
     let second = Client {
         holds: WHEN_OUT,
         ..served(
@@ -307,8 +293,7 @@ fn jobs_on_their_way_are_closed(rt: HostRuntime) -> Result<(), Fail> {
     let clients = [served(1, ONE_PAGE), second, third];
     for (session, client) in clients.iter().enumerate() {
         for octets in 0..=client.octets.len() {
-            closes_at(&rt, &clients, session, octets)?;
+            closes_at(&rt, &clients, session, octets);
         }
     }
-    Ok(())
 }

@@ -6,7 +6,6 @@ use crate::threads::{
 use lpd_values::Refusal;
 use session::SessionEnd;
 use shared_spool::Kind;
-use std::test::Fail;
 
 /// A job of three pages, of which the first comes before another session's job.
 const FIRST: Client<'static> = Client {
@@ -56,9 +55,9 @@ const WAITS: [Cue; 4] = [
 /// A session that waits for a page gets one when the session of the other job breaks, and its job
 /// is printed.
 #[test]
-fn a_break_ends_the_wait_for_a_page(rt: HostRuntime) -> Result<(), Fail> {
-    let report = play(&rt, &[FIRST, SECOND], &[WORKS], &WAITS)?;
-    let look = report.looks.first().ok_or("no look")?;
+fn a_break_ends_the_wait_for_a_page(rt: HostRuntime) {
+    let report = play(&rt, &[FIRST, SECOND], &[WORKS], &WAITS);
+    let look = report.looks.first().expect(&rt, "no look");
     assert_eq!(rt; (look.free, look.chained, look.lent), (1, 3, 0), "{look:?}");
     report.has_session(&rt, 0, SessionEnd::Closed, &[0; 5]);
     report.has_session(&rt, 1, SessionEnd::Broken, &[0; 2]);
@@ -80,31 +79,30 @@ fn a_break_ends_the_wait_for_a_page(rt: HostRuntime) -> Result<(), Fail> {
         Kind::Printed,
         Kind::Closed,
     ];
-    report.has_kinds(&rt, rt.alloc(), &HALVES, &last)
+    report.has_kinds(&rt, rt.alloc(), &HALVES, &last);
 }
 
 /// A session that waits for a page is refused one when the spool is closed, and the worker that
 /// waits for one ends.
 #[test]
-fn a_close_ends_the_wait_for_a_page(rt: HostRuntime) -> Result<(), Fail> {
+fn a_close_ends_the_wait_for_a_page(rt: HostRuntime) {
     let cues = [WAITS[0], WAITS[1], WAITS[2], WAITS[3], Cue::Close];
     let second = Client {
         holds: WHEN_HALF,
         stops: Some(33),
         ..SECOND
     };
-    let report = play(&rt, &[FIRST, second], &[WORKS], &cues)?;
+    let report = play(&rt, &[FIRST, second], &[WORKS], &cues);
     let end = SessionEnd::Refused(Refusal::NotOpen);
     report.has_session(&rt, 0, end, &[0, 0, 2]);
     report.has_work(&rt, 0, 0, 0);
-    Ok(())
 }
 
 /// Two printers, a job at each: the first one's page isn't written until the second one has written
 /// a page and a third session was answered. So no lock is held while a page is written, and each
 /// printer has a worker of its own.
 #[test]
-fn one_sink_waits_for_the_other(rt: HostRuntime) -> Result<(), Fail> {
+fn one_sink_waits_for_the_other(rt: HostRuntime) {
     let other =
         b"\x02lp\n\x0311 dfA002h2\nanother one\x00\x0219 cfA002h2\nHh2\nPbob\nfdfA002h2\n\x00";
     let second = Client {
@@ -124,7 +122,7 @@ fn one_sink_waits_for_the_other(rt: HostRuntime) -> Result<(), Fail> {
         ..WORKS
     };
     let clients = [served(1, STREAM), second, asking];
-    let report = play(&rt, &clients, &[first_sink, second_sink], &[])?;
+    let report = play(&rt, &clients, &[first_sink, second_sink], &[]);
     report.has_session(&rt, 0, SessionEnd::Closed, &[0; 5]);
     report.has_session(&rt, 1, SessionEnd::Closed, &[0; 5]);
     assert_eq!(rt; report.sessions.len(), 3);
@@ -137,13 +135,12 @@ fn one_sink_waits_for_the_other(rt: HostRuntime) -> Result<(), Fail> {
     let (of_first, of_second) = if first_has_first { (0, 1) } else { (1, 0) };
     report.has_pages(&rt, of_first, 1, DATA);
     report.has_pages(&rt, of_second, 2, b"another one");
-    Ok(())
 }
 
 /// A worker waits while its spool has nothing to print, takes what comes later, and ends when the
 /// spool is closed.
 #[test]
-fn a_worker_waits_for_what_comes_later(rt: HostRuntime) -> Result<(), Fail> {
+fn a_worker_waits_for_what_comes_later(rt: HostRuntime) {
     let client = Client {
         holds: &[Hold(0, Mark::Done(2))],
         ..served(1, STREAM)
@@ -155,8 +152,8 @@ fn a_worker_waits_for_what_comes_later(rt: HostRuntime) -> Result<(), Fail> {
         Cue::Rest,
         Cue::Deny(Mark::Worked(0)),
     ];
-    let report = play(&rt, &[client], &[WORKS], &cues)?;
+    let report = play(&rt, &[client], &[WORKS], &cues);
     report.has_work(&rt, 0, 2, 0);
     report.has_pages(&rt, 0, 1, DATA);
-    report.has_kinds(&rt, rt.alloc(), &WHOLE, &[])
+    report.has_kinds(&rt, rt.alloc(), &WHOLE, &[]);
 }

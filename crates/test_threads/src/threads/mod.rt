@@ -11,7 +11,7 @@ pub use board::{Answer, Board, Mark};
 pub use ends::{Client, Device, Hold, Way};
 pub use report::{Report, SessionReport};
 pub use scene::{Cue, Missing, Outcome, Scene, Seats, Stage};
-pub use stage::{Happens, PAGE_SIZE, PAGES, Places, happen, play};
+pub use stage::{PAGE_SIZE, PAGES, Seen, happen, play, report, seen};
 pub use worked::{
     ANSWERED_AT, CALLED, DATA, SERVED, STREAM, WHOLE, WORKS, WRITTEN_AT, called, reached, served,
 };

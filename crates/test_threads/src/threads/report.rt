@@ -6,7 +6,6 @@ use session::SessionEnd;
 use shared_spool::{Kind, Pages, Segment};
 use std::alloc::Global;
 use std::process::Abort;
-use std::test::Fail;
 use test_kit_seats::Paper;
 
 /// What came of a session.
@@ -60,20 +59,13 @@ impl Report {
     }
 
     /// The account's entries are of these kinds.
-    pub fn has_kinds(
-        &self,
-        rt: &impl Abort,
-        alloc: Global,
-        first: &[Kind],
-        then: &[Kind],
-    ) -> Result<(), Fail> {
+    pub fn has_kinds(&self, rt: &impl Abort, alloc: Global, first: &[Kind], then: &[Kind]) {
         let mut kinds = Vec::new(alloc);
         for entry in self.account.entries.iter() {
-            kinds.push(entry.kind())?;
+            kinds.push(entry.kind()).expect(rt, "memory");
         }
         let (head, tail) = kinds.as_slice().split_at(first.len().min(kinds.len()));
         assert!(rt; head == first && tail == then, "{kinds:?}");
-        Ok(())
     }
 
     /// A session ended so, and wrote this.

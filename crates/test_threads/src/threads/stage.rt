@@ -13,8 +13,8 @@ use shared_spool::{
 use std::alloc::Global;
 use std::marker::Brand;
 use std::process::Abort;
+use std::sync::Wait;
 use std::sync::ledger::Ledger;
-use std::test::Fail;
 use test_kit::Spool;
 use test_kit_seats::{Entries, Host, Sums};
 
@@ -23,51 +23,6 @@ pub const PAGE_SIZE: usize = 8;
 
 /// How many pages a spool has.
 pub const PAGES: usize = 4;
-
-/// What a spool has for what happens there.
-#[derive(Clone, Copy)]
-pub struct Places<'a> {
-    /// How many sessions have a seat, beside the director.
-    pub sessions: usize,
-    /// How many printers the first queue has.
-    pub printers: usize,
-    /// Further queues, as a configuration has them.
-    pub others: &'a str,
-    /// Which seat is missing when the spool is first to be finished.
-    pub missing: Missing,
-}
-
-/// What happens at a spool, in threads of its own.
-pub trait Happens: Copy {
-    /// What the spool has for it.
-    fn places(&self) -> Places<'_>;
-
-    /// Has it happen, and gives all seats back. None where memory is refused or a thread can't be made.
-    fn happen<R: Host, E: Entries, K: Sums, H: Sums>(
-        &self,
-        stage: &Stage<'_, R, E, K, H>,
-        seats: Seats<E, K, H>,
-    ) -> Option<Outcome<E, K, H>>;
-}
-
-impl Happens for Scene<'_> {
-    fn places(&self) -> Places<'_> {
-        Places {
-            sessions: self.clients.len(),
-            printers: self.devices.len(),
-            others: "",
-            missing: self.missing,
-        }
-    }
-
-    fn happen<R: Host, E: Entries, K: Sums, H: Sums>(
-        &self,
-        stage: &Stage<'_, R, E, K, H>,
-        seats: Seats<E, K, H>,
-    ) -> Option<Outcome<E, K, H>> {
-        act(stage, *self, seats)
-    }
-}
 
 /// Finishes a spool, of which a seat may be missing at first. Answers the last segment of the
 /// account, and what was told where everything came back for that seat.
@@ -104,9 +59,9 @@ fn finish<E: SpoolLedger, K: Ledger, H: Ledger>(
     Some((segment, Some(told)))
 }
 
-/// What came of a scene's threads, with all seats, before the spool is finished.
+/// What came of threads at a spool, with all seats, before it is finished.
 #[derive(Drop)]
-struct Seen<E: SpoolLedger, K: Ledger, H: Ledger> {
+pub struct Seen<E: SpoolLedger, K: Ledger, H: Ledger> {
     outcome: Outcome<E, K, H>,
     is_late: bool,
     is_early: bool,
@@ -114,10 +69,28 @@ struct Seen<E: SpoolLedger, K: Ledger, H: Ledger> {
     held: usize,
 }
 
-/// Has it happen at this spool.
-fn see<R: Host, W: Happens, E: Entries, K: Sums, H: Sums>(
+/// Looks at a stage, all of whose threads were joined. None where no session's seat came back.
+pub fn seen<R: Wait, E: SpoolLedger, K: Ledger, H: Ledger>(
+    stage: &Stage<'_, R, E, K, H>,
+    outcome: Outcome<E, K, H>,
+) -> Option<Seen<E, K, H>> {
+    let mut outcome = outcome;
+    let seat = outcome.session_seats.last_mut()?;
+    let pages = stage.spool.pages_by_place(stage.rt, seat);
+    let held = stage.spool.held(stage.rt, seat);
+    Some(Seen {
+        outcome,
+        is_late: stage.board.has(stage.rt, Mark::Late),
+        is_early: stage.board.has(stage.rt, Mark::Early),
+        pages,
+        held,
+    })
+}
+
+/// Has a scene happen at this spool.
+fn see<R: Host, E: Entries, K: Sums, H: Sums>(
     rt: &R,
-    what: W,
+    scene: Scene<'_>,
     spool: &SharedSpool<E, K, H>,
     mut sessions: Vec<SessionSeat<E, K, H>>,
     printers: Vec<PrinterSeat<E, K, H>>,
@@ -134,21 +107,12 @@ fn see<R: Host, W: Happens, E: Entries, K: Sums, H: Sums>(
         board: &board,
         spool,
     };
-    let mut outcome = what.happen(&stage, seats)?;
-    let seat = outcome.session_seats.last_mut()?;
-    let pages = spool.pages_by_place(rt, seat);
-    let held = spool.held(rt, seat);
-    Some(Seen {
-        outcome,
-        is_late: board.has(rt, Mark::Late),
-        is_early: board.has(rt, Mark::Early),
-        pages,
-        held,
-    })
+    let outcome = act(&stage, scene, seats)?;
+    seen(&stage, outcome)
 }
 
 /// Finishes the spool, and tells what came of all.
-fn report<E: SpoolLedger, K: Ledger, H: Ledger>(
+pub fn report<E: SpoolLedger, K: Ledger, H: Ledger>(
     alloc: Global,
     missing: Missing,
     spool: SharedSpool<E, K, H>,
@@ -175,15 +139,14 @@ fn report<E: SpoolLedger, K: Ledger, H: Ledger>(
     })
 }
 
-/// Has it happen at a spool of these ledgers. What lives at an early return here is little: each of
+/// Has a scene happen at a spool of these ledgers. What lives at an early return here is little: each of
 /// them drops it, and each drop is proved.
 fn happen_at<
     R: Host,
-    W: Happens,
     E: SpoolLedger + Send + Sync,
     K: Ledger + Send + Sync,
     H: Ledger + Send + Sync,
->(rt: &R, what: W, config: Config, count: u32, blanks: Blanks) -> Option<Report>
+>(rt: &R, scene: Scene<'_>, config: Config, count: u32, blanks: Blanks) -> Option<Report>
     requires { AreFor blanks config count E.config (mark E.name E.parts)
         (mark K.name K.parts) (mark H.name H.parts) }
 {
@@ -192,29 +155,22 @@ fn happen_at<
         sessions,
         printers,
     } = SharedSpool::<E, K, H>::new(rt.alloc(), blanks, config, count).ok()?;
-    let seen = see(rt, what, &spool, sessions, printers)?;
-    report(rt.alloc(), what.places().missing, spool, seen)
+    let seen = see(rt, scene, &spool, sessions, printers)?;
+    report(rt.alloc(), scene.missing, spool, seen)
 }
 
-/// Has it happen at a spool of its own. None where memory is refused, a thread can't be made or a
+/// Has a scene happen at a spool of its own. None where memory is refused, a thread can't be made or a
 /// seat doesn't come back.
-pub fn happen<R: Host, W: Happens>(rt: &R, what: W) -> Option<Report> {
-    let Places {
-        sessions,
-        printers,
-        others,
-        ..
-    } = what.places();
+pub fn happen<R: Host>(rt: &R, scene: Scene<'_>) -> Option<Report> {
     let spool = Spool {
-        printers: u32::try_from(printers).ok()?,
-        others,
+        printers: u32::try_from(scene.devices.len()).ok()?,
         ..Spool::SMALL
     };
     // One more for the director.
-    let count = u32::try_from(sessions).ok()?.checked_add(1)?;
+    let count = u32::try_from(scene.clients.len()).ok()?.checked_add(1)?;
     let config = spool.config(rt.alloc())?;
     let blanks = Blanks::new(&config, count);
-    happen_at::<R, W, Brand, Brand, Brand>(rt, what, config, count, blanks)
+    happen_at::<R, Brand, Brand, Brand>(rt, scene, config, count, blanks)
 }
 
 /// Has these sessions and printers act, with these cues, and gives what came of it: all marks came
@@ -224,14 +180,14 @@ pub fn play<R: Abort + Host>(
     clients: &[Client<'_>],
     devices: &[Device<'_>],
     cues: &[Cue],
-) -> Result<Report, Fail> {
+) -> Report {
     let scene = Scene {
         clients,
         devices,
         cues,
         missing: Missing::Nothing,
     };
-    let report = happen(rt, scene).ok_or("no report")?;
+    let report = happen(rt, scene).expect(rt, "a report");
     report.is_quiet(rt, "a scene");
-    Ok(report)
+    report
 }

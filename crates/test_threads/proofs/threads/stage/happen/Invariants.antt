@@ -1,4 +1,4 @@
-use Rattle.test_threads.proofs.stage.happen.Given as goal
+use Rattle.test_threads.proofs.threads.stage.happen.Given as goal
 
 abbrev pub ghosts-happen_at-E-Ledger : goal.ghosts-happen_at-E-Ledger
 ghosts-happen_at-E-Ledger g a = record { name = a.blanks.entries.name; parts = a.blanks.entries.parts }
