@@ -104,6 +104,35 @@ def rotations_that_are_refused():
     return "six of each"
 
 
+def rotations_after_connections_that_are_refused():
+    """With --rotate 1 and an account in files each connection is followed by a rotation, which is refused while a printer that has failed holds a job: once that is
+    removed, the next one is done."""
+    with Room() as room:
+        plain = [word for word in room.line() if word not in ("--keep-room", "--spool", room.kept)]
+        room.line = lambda: [*plain, "--account", f"{room.folder}/account", "--rotate", "1"]
+        os.symlink("/dev/full", f"{room.folder}/printer-1")
+        room.start()
+        for turn in range(1, 4):
+            with contextlib.closing(connect(room.port)) as peer:
+                for number in (1, 2):
+                    text = control(number)
+                    for line in ([b"\x02lp\n"] if number == 1 else []) + [b"\x031 dfA%03dh1\n" % number, b"x\0", b"\x02%d cfA%03dh1\n" % (len(text), number), text + b"\0"]:
+                        peer.sendall(line)
+                        check(answer(peer) == 0, f"{line} isn't taken")
+            with contextlib.closing(connect(room.port)) as peer:
+                peer.sendall(b"\x03lp\n")
+                check(peer.recv(100), "no answer")
+            check("removed" in (told := room.tell("remove", "lp", "2")), told)
+            room.tell("start", "lp")
+            until = time.monotonic() + 20
+            while f"\nrotated {turn} entries " not in open(f"{room.folder}/said").read():
+                check(time.monotonic() < until, f"{open(f'{room.folder}/said').read()}: {room.log()[-600:]}")
+                with contextlib.closing(connect(room.port)):
+                    time.sleep(0.2)
+        check("JobsHeld" in room.log(), room.log()[-400:])
+    return "three times, each once none was held"
+
+
 def a_rotation_is_printed_at_once():
     """A rotation that is asked for while nobody connects: its line is printed at once."""
     with Room() as room:
@@ -349,7 +378,7 @@ def many_syncs_wake_each():
         return f"{took:.1f} s"
 
 
-SCENES = (signals_that_stop, the_earlier_stop_holds, rotations_that_are_refused, a_rotation_is_printed_at_once, segments_that_wait, who_asked_and_went_gives_place, clients_that_end_their_sending, descriptors_that_come_again,
+SCENES = (signals_that_stop, the_earlier_stop_holds, rotations_that_are_refused, rotations_after_connections_that_are_refused, a_rotation_is_printed_at_once, segments_that_wait, who_asked_and_went_gives_place, clients_that_end_their_sending, descriptors_that_come_again,
           no_octet_behind_a_stop_now, pauses_begin_anew_behind_a_page, many_syncs_wake_each)
 
 if __name__ == "__main__":

@@ -104,6 +104,21 @@ def a_warning_that_comes_again():
     return "three lines of four warnings"
 
 
+def an_end_waits_for_lines_alone():
+    """With --log a server ends as soon as its lines are written, also those that were counted."""
+    with tempfile.TemporaryDirectory() as room:
+        with Server(PROGRAM, spool(), "--keep-room", "--log", "time", "--control", f"{room}/control") as it:
+            for _ in range(3):
+                talk(it.port, b"\x02nosuch\n")
+            begun = time.monotonic()
+            subprocess.run([PROGRAM, "control", f"{room}/control", "stop"], check=True, timeout=30, stdout=subprocess.DEVNULL)
+            it.process.wait(20)
+            took = time.monotonic() - begun
+            check(": 2 more times in " in it.log(), it.log())
+    check(took < 0.8, f"it ended after {took:.2f} s")
+    return f"after {took:.2f} s"
+
+
 def no_descriptor_is_left():
     """A connection that can't be accepted, since the system has no more descriptors for the server."""
     with Server(PROGRAM, spool(), "--keep-room") as it:
@@ -188,7 +203,7 @@ def the_account_has_no_room():
     return "one line"
 
 
-SCENES = [refusals_name_their_job, connections_are_told, a_warning_that_comes_again, no_descriptor_is_left, printers_are_told, folders_are_told]
+SCENES = [refusals_name_their_job, connections_are_told, a_warning_that_comes_again, an_end_waits_for_lines_alone, no_descriptor_is_left, printers_are_told, folders_are_told]
 
 # Told after a minute.
 LONG = [the_account_has_no_room]
