@@ -86,8 +86,12 @@ def names_that_are_taken():
                     connect(port).close()
                     break
                 time.sleep(0.05)
-            said = [line.split("] ", 1)[-1] for line in open(f"{room}/told").read().splitlines()]
-            placed = [line for line in said if line.startswith("printer ")]
+            for _ in range(40):
+                said = [line.split("] ", 1)[-1] for line in open(f"{room}/told").read().splitlines()]
+                placed = [line for line in said if line.startswith("printer ")]
+                if len(placed) > len(lines):
+                    break
+                time.sleep(0.05)
             check(placed == [*lines, "printer 1 of lp has no place, where others have one: it prints to ./printer-1"], f"the start: {said}")
             for number, queue in enumerate(("lp", "plotter", "a.2"), 1):
                 check(send(port, number, f"to {queue}".encode(), queue=queue) == 0, f"{queue} takes no job")

@@ -263,9 +263,9 @@ def a_next_page_that_is_due():
         ended = threading.Event()
 
         def send_all():
-            for number in range(200):
-                if ended.is_set() or send(it.port, number, b"x" * 16 * 2000) != 0:
-                    return
+            number = 0
+            while not ended.is_set() and send(it.port, number % 1000, b"x" * 16 * 2000) == 0:
+                number += 1
 
         sender = threading.Thread(target=send_all, daemon=True)
         sender.start()

@@ -256,11 +256,14 @@ def printers_are_looked_at():
         # (in /proc nobody makes a file)
         fails(room, [*serve, "--printer", "front=folder:/proc"], 4, "fault 73 WriteFile /proc", r"/proc: ")
         with Server(PROGRAM, CONFIG, "--keep-room", "--printer", f"1=file:{room}/one", "--printer", f"3=file:{room}/one", printers=2, device=None) as it:
+            # (it listens before it has told all)
+            time.sleep(0.3)
             lines = it.log().splitlines()
             shared = [line for line in lines if f"printer 3: {room}/one: another server or printer writes to it too" in line]
             unplaced = [line for line in lines if f"printer 2 of back has no place, where others have one: it prints to {it.folder}/printer-2" in line]
             check(len(shared) == 1 and len(unplaced) == 1, lines)
             with Server(PROGRAM, CONFIG, "--keep-room", "--printer", f"front=file:{room}/one", "--printer", "2=file:/dev/null", "--printer", "3=file:/dev/null") as other:
+                time.sleep(0.3)
                 lines = other.log().splitlines()
                 check(sum("writes to it too" in line for line in lines) == 1 and not any("has no place" in line for line in lines), lines)
     return "a folder, a file of two printers and of two servers, a printer without a place"
