@@ -8,7 +8,8 @@ use kept_requests::Keeping;
 use memory_folder::{Crash, MemoryFolder};
 use request_session::{Input, serve_with};
 use spool_core::Core;
-use std::alloc::{AllocError, Global};
+use std::alloc::Global;
+use std::process::Abort;
 use std::sync::Wait;
 use test_kit::{Reader, Spool, Writer};
 
@@ -117,14 +118,6 @@ const JOBS: [Job; 5] = [
     },
 ];
 
-/// What a crash may take: all that isn't synced, and names or octets alone.
-const CRASHES: [Crash; 4] = [
-    Crash::Loses,
-    Crash::Keeps(0),
-    Crash::Keeps(30),
-    Crash::Keeps(usize::MAX),
-];
-
 /// No number of calls that go well is looked at from here on.
 const MANY: u64 = 1_000;
 
@@ -140,12 +133,12 @@ fn roomy_core(alloc: Global) -> Option<Core> {
 }
 
 /// What each session is answered, one after another, up to the one in which the folder fails.
-fn answers<R: Wait>(
+fn answers<R: Wait + Abort>(
     rt: &R,
     alloc: Global,
     input: &mut Input,
     spool: &mut Keeping<Aside, MemoryFolder>,
-) -> Result<Vec<Vec<u8>>, AllocError> {
+) -> Vec<Vec<u8>> {
     let mut answers = Vec::new(alloc);
     for sent in &SESSIONS {
         let mut reader = Reader::new(sent.octets, sent.piece, 0);
@@ -159,12 +152,12 @@ fn answers<R: Wait>(
             &mut reader,
             &mut writer,
         );
-        answers.push(writer.octets)?;
+        answers.push(writer.octets).expect(rt, "memory");
         if spool.given_up.is_some() {
             break;
         }
     }
-    Ok(answers)
+    answers
 }
 
 /// Whether this job was acknowledged.
@@ -190,11 +183,12 @@ fn acknowledged(answers: &[Vec<u8>]) -> Option<usize> {
 }
 
 /// The files that a crash leaves in the folder, each under a number that is greater than those of earlier jobs, the newest first.
-fn files_after(
+fn files_after<R: Abort>(
+    rt: &R,
     alloc: Global,
     folder: &MemoryFolder,
     crash: Crash,
-) -> Result<Vec<(u64, Vec<u8>)>, AllocError> {
+) -> Vec<(u64, Vec<u8>)> {
     let mut files = Vec::new(alloc);
     let mut number = 1u64;
     for gone in folder.gone() {
@@ -202,15 +196,17 @@ fn files_after(
             continue;
         }
         if let Some(octets) = gone.file.left(crash) {
-            files.push((number, Vec::from_slice(alloc, octets)?))?;
+            let octets = Vec::from_slice(alloc, octets).expect(rt, "memory");
+            files.push((number, octets)).expect(rt, "memory");
         }
         number = number.saturating_add(1);
     }
     if let Some(octets) = folder.left(crash) {
-        files.push((number, Vec::from_slice(alloc, octets)?))?;
+        let octets = Vec::from_slice(alloc, octets).expect(rt, "memory");
+        files.push((number, octets)).expect(rt, "memory");
     }
     files.as_mut_slice().reverse();
-    Ok(files)
+    files
 }
 
 /// Whether these are exactly the first of `JOBS`, each fed once, as a session of its own that ended well, and received.
@@ -229,53 +225,97 @@ fn are_first_jobs(found: &Recovered, spool: &Noting) -> bool {
 }
 
 /// How many jobs are recovered, which are the first of `JOBS`. None where it is otherwise.
-fn recovered<R: Wait>(rt: &R, alloc: Global, shelf: &mut Shelf) -> Option<usize> {
-    let mut spool = Noting::new(alloc, roomy_core(alloc)?);
-    let found = recover_all(rt, alloc, shelf, &mut spool).ok()?;
-    if are_first_jobs(&found, &spool) {
-        Some(spool.jobs.len())
-    } else {
-        None
+fn recovered<R: Wait + Abort>(rt: &R, alloc: Global, shelf: &mut Shelf) -> Option<usize> {
+    let core = roomy_core(alloc).expect(rt, "a core");
+    let mut spool = Noting::new(alloc, core);
+    match recover_all(rt, alloc, shelf, &mut spool) {
+        Ok(found) if are_first_jobs(&found, &spool) => Some(spool.jobs.len()),
+        Ok(_) | Err(_) => None,
     }
+}
+
+/// What was recovered so far.
+#[derive(Drop)]
+struct Found {
+    /// The files of which that was last, and how many jobs that were.
+    shelf: Shelf,
+    count: Option<usize>,
+    /// How often the job that was to be acknowledged next was among them.
+    of_next: usize,
+}
+
+impl Found {
+    /// What a crash leaves in the folder is recovered: each job that was acknowledged, and perhaps the next one.
+    fn look<R: Wait + Abort>(
+        &mut self,
+        rt: &R,
+        alloc: Global,
+        folder: &MemoryFolder,
+        crash: Crash,
+        acknowledged: usize,
+    ) {
+        let files = files_after(rt, alloc, folder, crash);
+        // From the files that were there before the same is recovered.
+        if files.as_slice() != self.shelf.jobs.as_slice() {
+            self.shelf.jobs = files;
+            self.count = recovered(rt, alloc, &mut self.shelf);
+        }
+        let count = self.count.expect(rt, "the first jobs");
+        let more = count.saturating_sub(acknowledged);
+        assert!(rt;
+            count >= acknowledged && more <= 1,
+            "{crash:?}: {count} of {acknowledged}"
+        );
+        self.of_next = self.of_next.saturating_add(more);
+    }
+}
+
+/// All sessions over a folder of which so many calls go well, and crashes behind them. Whether all calls went well.
+fn crashes_after<R: Wait + Abort>(
+    rt: &R,
+    alloc: Global,
+    calls: u64,
+    input: &mut Input,
+    found: &mut Found,
+) -> bool {
+    let core = roomy_core(alloc).expect(rt, "a core");
+    let inner = Aside::new(core, Way::InTurn);
+    let mut spool = Keeping::new(alloc, inner, MemoryFolder::new(alloc, calls));
+    let answers = answers(rt, alloc, input, &mut spool);
+    let acknowledged = acknowledged(answers.as_slice()).expect(rt, "the first jobs");
+    let folder = &spool.hand.folder;
+    found.look(rt, alloc, folder, Crash::Loses, acknowledged);
+    found.look(rt, alloc, folder, Crash::Keeps(0), acknowledged);
+    found.look(rt, alloc, folder, Crash::Keeps(30), acknowledged);
+    found.look(rt, alloc, folder, Crash::Keeps(usize::MAX), acknowledged);
+    if spool.given_up.is_some() {
+        return false;
+    }
+    for (answered, sent) in answers.iter().zip(SESSIONS.iter()) {
+        assert_eq!(rt; answered.as_slice(), sent.answered);
+    }
+    assert_eq!(rt; answers.len(), SESSIONS.len());
+    true
 }
 
 /// For each number of calls that go well, each job that was acknowledged is recovered, whether it went through the spool or beside it, in
 /// its order, once, with just its octets and its sender. Of the job that is to be acknowledged next the whole is recovered or nothing, and
 /// nothing else is.
 #[test]
-fn crashes_at_each_call(rt: HostRuntime) -> Result<(), AllocError> {
+fn crashes_at_each_call(rt: HostRuntime) {
     let alloc = rt.alloc();
-    let mut input = Input::new(alloc)?;
-    let mut shelf = Shelf::new(alloc, Vec::new(alloc), 16);
-    let mut count = Some(0);
-    let mut of_next = 0usize;
+    let mut input = Input::new(alloc).expect(&rt, "memory");
+    let mut found = Found {
+        shelf: Shelf::new(alloc, Vec::new(alloc), 16),
+        count: Some(0),
+        of_next: 0,
+    };
     for calls in 0..MANY {
-        let core = roomy_core(alloc).expect(&rt, "a core");
-        let inner = Aside::new(core, Way::InTurn);
-        let mut spool = Keeping::new(alloc, inner, MemoryFolder::new(alloc, calls));
-        let answers = answers(&rt, alloc, &mut input, &mut spool)?;
-        let acknowledged = acknowledged(answers.as_slice()).expect(&rt, "the first jobs");
-        for crash in CRASHES {
-            let files = files_after(alloc, &spool.hand.folder, crash)?;
-            // From the files that were there before the same is recovered.
-            if files.as_slice() != shelf.jobs.as_slice() {
-                shelf.jobs = files;
-                count = recovered(&rt, alloc, &mut shelf);
-            }
-            assert!(rt; count.is_some(), "{calls} calls and {crash:?}");
-            let count = count.unwrap_or(0);
-            let more = count.saturating_sub(acknowledged);
-            assert!(rt; count >= acknowledged && more <= 1);
-            of_next = of_next.saturating_add(more);
-        }
-        if spool.given_up.is_none() {
-            for (answered, sent) in answers.iter().zip(SESSIONS.iter()) {
-                assert_eq!(rt; answered.as_slice(), sent.answered);
-            }
+        if crashes_after(&rt, alloc, calls, &mut input, &mut found) {
             // A crash leaves a job that isn't acknowledged only where its name isn't synced, and then if it leaves the name.
-            assert_eq!(rt; (answers.len(), of_next), (SESSIONS.len(), 3 * JOBS.len()));
-            return Ok(());
+            assert_eq!(rt; found.of_next, 3 * JOBS.len());
+            return;
         }
     }
-    Err(AllocError)
+    panic!(rt; "some call fails always");
 }

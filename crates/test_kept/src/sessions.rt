@@ -1,9 +1,10 @@
 //! Sessions over a core, whose folder in memory fails from some call on.
 
 use crate::aside::{Aside, Way};
-use kept_requests::{Cause, KeepError, Keeping, serve_kept};
+use kept_requests::{Cause, KeepError, Keeping};
 use memory_folder::{Crash, FileEnd, GoneFile, MemoryFolder};
 use parked_requests::{Parks, Through};
+use request_session::serve_by;
 use spool_core::Core;
 use std::alloc::Global;
 use std::sync::Wait;
@@ -50,7 +51,7 @@ fn answered<R: Wait, Q: Parks>(
 ) -> Vec<u8> {
     let mut reader = Reader::new(SENT, 7, 0);
     let mut writer = Writer::new(alloc, 3, 0);
-    let _end = serve_kept(rt, alloc, spool, SENDER, &mut reader, &mut writer);
+    let _end = serve_by(rt, alloc, spool, SENDER, &mut reader, &mut writer);
     writer.octets
 }
 
