@@ -7,7 +7,7 @@
 # The files of these crates lie in beside/NAME with other endings, since a repository's .rt and .antt files are read by its gate, all
 # of them. rt works in a copy of the repository, in which the crate has its right place and names; the copy lies in the folder that
 # BESIDE_COPY names, or in ~/.cache/hurgwaye/beside, and keeps what was proved for the next time. A module that a crate of the gate has
-# too is not kept twice: the file beside/NAME/shares names its folder, from crates/ on, and it is copied from there. A test has no files, so
+# too is not kept twice: the file beside/NAME/shares names its folder, from crates/ on (or by ../beside/), and it is copied from there. A test has no files, so
 # each line `NAME FILE` of beside/NAME/rows makes a constant of the crate's module `rows` of a file, from crates/ on. Two words in place
 # of rt's:
 #
@@ -66,9 +66,9 @@ for folder in "$top"/beside/*/; do
     crate=$copy/crates/$(basename "$folder")
     mkdir -p "$crate"
     cp -a "$folder." "$crate/"
+    shared_by "$(basename "$folder")" | while read -r module; do cp -a "$top/crates/$module" "$crate/src/"; done
     find "$crate" -path "$crate/out" -prune -o -name '*.rattle' -print | while read -r file; do mv "$file" "${file%.rattle}.rt"; done
     find "$crate" -path "$crate/out" -prune -o -name '*.proof' -print | while read -r file; do mv "$file" "${file%.proof}.antt"; done
-    shared_by "$(basename "$folder")" | while read -r module; do cp -a "$top/crates/$module" "$crate/src/"; done
     [ ! -f "$folder/rows" ] || rows_of "$(basename "$folder")" > "$crate/src/rows.rt"
 done
 cat "$top/beside/stands-on.txt" >> "$copy/crates.txt"

@@ -4,13 +4,11 @@
 #[cfg(test)]
 mod aside;
 #[cfg(test)]
-mod crashes;
-#[cfg(test)]
 mod ends;
 #[cfg(test)]
-mod folder;
+mod feeding;
 #[cfg(test)]
-mod noting;
+mod folder;
 #[cfg(test)]
 mod sessions;
 #[cfg(test)]
