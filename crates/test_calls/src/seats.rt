@@ -5,7 +5,7 @@
 //! | Call | Answers |
 //! |---|---|
 //! | `rotate`, `trim` | `segment K entries N before B`: its number, how many entries it has and how many the earlier ones have |
-//! | `finish`, which is a block's last call | the same, or `13 SeatsMissing` |
+//! | `finish`, which is a block's last call | the same; where the block has a line `finish => 13 SeatsMissing`, a seat is kept back for that |
 //!
 //! Below a segment stand its entries, each in a line behind two spaces, in order of writing and in the words of `entries`, and
 //! then `legal`, where the plain reader finds that each of them met its conditions from the segment's base on. Of one that goes on behind a
@@ -21,7 +21,7 @@ use crate::spool::Spool;
 use config_values::Config;
 use history_legality::is_legal;
 use session::{Seated, SessionSeat, SharedSpool};
-use shared_spool::{Opened, PrinterSeat, Segment, SpoolLedger};
+use shared_spool::{Opened, PrinterSeat, Segment, SpoolLedger, Unfinished};
 use spool_core::Core;
 use std::alloc::{AllocError, Global};
 use std::sync::Wait;
@@ -139,21 +139,53 @@ fn push_lines<R: Wait, E: SpoolLedger, K: Ledger, H: Ledger>(
     Ok(())
 }
 
-/// Appends a block's last line: what the spool's end answers.
-fn push_finish<E: SpoolLedger, K: Ledger, H: Ledger>(
-    told: &mut String,
-    alloc: Global,
+/// A spool whose calls have been made, with its seats. One of them may be kept back at first.
+#[derive(Drop)]
+struct Ended<E: SpoolLedger, K: Ledger, H: Ledger> {
     spool: SharedSpool<E, K, H>,
     sessions: Vec<SessionSeat<E, K, H>>,
     printers: Vec<PrinterSeat<E, K, H>>,
+    kept_back: Option<SessionSeat<E, K, H>>,
+}
+
+/// Appends a line that a spool's end is refused by, and finishes it with the seat that was kept back.
+fn push_unfinished<E: SpoolLedger, K: Ledger, H: Ledger>(
+    told: &mut String,
+    unfinished: Unfinished<E, K, H>,
+    kept_back: Option<SessionSeat<E, K, H>>,
+) -> Result<Option<Segment>, AllocError> {
+    write!(told, "finish => {unfinished}\n")?;
+    let Unfinished {
+        spool,
+        mut sessions,
+        printers,
+    } = unfinished;
+    if let Some(seat) = kept_back {
+        sessions.push(seat)?;
+    }
+    Ok(spool.finish(sessions, printers).ok())
+}
+
+/// Appends a block's last lines: what the spool's end answers.
+fn push_finish<E: SpoolLedger, K: Ledger, H: Ledger>(
+    told: &mut String,
+    alloc: Global,
+    ended: Ended<E, K, H>,
     config: &Config,
 ) -> Result<(), AllocError> {
-    match spool.finish(sessions, printers) {
-        Ok(segment) => {
-            told.push_str("finish => ")?;
-            push_segment(told, alloc, config, segment)?;
-        }
-        Err(unfinished) => write!(told, "finish => {unfinished}")?,
+    let Ended {
+        spool,
+        sessions,
+        printers,
+        kept_back,
+    } = ended;
+    let segment = match spool.finish(sessions, printers) {
+        Ok(segment) => Some(segment),
+        Err(unfinished) => push_unfinished(told, unfinished, kept_back)?,
+    };
+    if let Some(segment) = segment {
+        told.push_str("finish => ")?;
+        push_segment(told, alloc, config, segment)?;
     }
     told.push_str("\n")
 }
@@ -195,8 +227,20 @@ fn push_block<R: Wait, E: SpoolLedger, K: Ledger, H: Ledger>(
         printers,
     } = seats.into_spool();
     sessions.push(operator)?;
-    sessions.push(calls.into_seat())?;
-    push_finish(told, alloc, spool, sessions, printers, core.spool.config())?;
+    let seat = calls.into_seat();
+    let kept_back = if block.contains("SeatsMissing") {
+        Some(seat)
+    } else {
+        sessions.push(seat)?;
+        None
+    };
+    let ended = Ended {
+        spool,
+        sessions,
+        printers,
+        kept_back,
+    };
+    push_finish(told, alloc, ended, core.spool.config())?;
     pushed
 }
 

@@ -198,6 +198,125 @@ answered waiting \x00\x00\x00
 ended halting
 ----
 printed hello world again
+====
+peers_leave_amid_a_job
+serve --connections 27
+connect x
+write x \x02
+drop x
+connect x
+write x \x02
+half x
+drop x
+connect x
+write x \x02lp\n
+drop x
+connect x
+write x \x02lp\n
+half x
+drop x
+connect x
+write x \x02lp\n\x0311\x20d
+drop x
+connect x
+write x \x02lp\n\x0311\x20d
+half x
+drop x
+connect x
+write x \x02lp\n\x0311\x20dfA001h1\n
+drop x
+connect x
+write x \x02lp\n\x0311\x20dfA001h1\n
+half x
+drop x
+connect x
+write x \x02lp\n\x0311\x20dfA001h1\nh
+drop x
+connect x
+write x \x02lp\n\x0311\x20dfA001h1\nh
+half x
+drop x
+connect x
+write x \x02lp\n\x0311\x20dfA001h1\nhello\x20wor
+drop x
+connect x
+write x \x02lp\n\x0311\x20dfA001h1\nhello\x20wor
+half x
+drop x
+connect x
+write x \x02lp\n\x0311\x20dfA001h1\nhello\x20world
+drop x
+connect x
+write x \x02lp\n\x0311\x20dfA001h1\nhello\x20world
+half x
+drop x
+connect x
+write x \x02lp\n\x0311\x20dfA001h1\nhello\x20world\x00
+drop x
+connect x
+write x \x02lp\n\x0311\x20dfA001h1\nhello\x20world\x00
+half x
+drop x
+connect x
+write x \x02lp\n\x0311\x20dfA001h1\nhello\x20world\x00\x0219\x20cf
+drop x
+connect x
+write x \x02lp\n\x0311\x20dfA001h1\nhello\x20world\x00\x0219\x20cf
+half x
+drop x
+connect x
+write x \x02lp\n\x0311\x20dfA001h1\nhello\x20world\x00\x0219\x20cfA001h1\n
+drop x
+connect x
+write x \x02lp\n\x0311\x20dfA001h1\nhello\x20world\x00\x0219\x20cfA001h1\n
+half x
+drop x
+connect x
+write x \x02lp\n\x0311\x20dfA001h1\nhello\x20world\x00\x0219\x20cfA001h1\nH
+drop x
+connect x
+write x \x02lp\n\x0311\x20dfA001h1\nhello\x20world\x00\x0219\x20cfA001h1\nH
+half x
+drop x
+connect x
+write x \x02lp\n\x0311\x20dfA001h1\nhello\x20world\x00\x0219\x20cfA001h1\nHh1\nPann\nfdfA
+drop x
+connect x
+write x \x02lp\n\x0311\x20dfA001h1\nhello\x20world\x00\x0219\x20cfA001h1\nHh1\nPann\nfdfA
+half x
+drop x
+connect x
+write x \x02lp\n\x0311\x20dfA001h1\nhello\x20world\x00\x0219\x20cfA001h1\nHh1\nPann\nfdfA001h1\n
+drop x
+connect x
+write x \x02lp\n\x0311\x20dfA001h1\nhello\x20world\x00\x0219\x20cfA001h1\nHh1\nPann\nfdfA001h1\n
+half x
+drop x
+job 2 good
+----
+printed good
+====
+a_printer_waits_for_no_other
+plotter
+pipe
+serve --connections 3
+connect a
+whole a 1 hello world
+answered a \x00\x00\x00\x00\x00
+drop a
+pause 300
+connect b
+write b \x02plotter\n\x0311 dfA002h1\nhello world\x00\x0219 cfA002h1\nHh1\nPann\nfdfA002h1\n\x00
+answered b \x00\x00\x00\x00\x00
+drop b
+pause 300
+connect c
+write c \x03plotter\n
+answered c queue plotter jobs 0 printers 1 stopped 0\n
+ended c
+empty
+----
+piped hello world
 "##;
 
 /// Servers that can't start, or can't go on.
