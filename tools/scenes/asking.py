@@ -233,7 +233,20 @@ def a_person_who_types_no_words():
     return "told, and then waited for"
 
 
-SCENES = [answers_at_a_terminal, a_user_at_a_terminal, a_socket_that_nobody_serves, a_stop_is_waited_for, a_person_who_types_no_words]
+def a_file_that_is_not_there():
+    """At a terminal a replay says which of its two files can't be read."""
+    with tempfile.TemporaryDirectory() as room:
+        with open(f"{room}/spool.toml", "w") as file:
+            file.write(spool())
+        script, config = f"{room}/nosuch.script", f"{room}/nosuch.toml"
+        for words, named in (((f"{room}/spool.toml", script), script), ((config, script), config)):
+            status, told = at_a_terminal(["replay", *words], stderr=subprocess.STDOUT)
+            lines = told.decode().splitlines()
+            check(status == 4 and any(f"{named}: No such file" in line for line in lines), f"{words}: {status} {lines}")
+    return "each"
+
+
+SCENES = [a_file_that_is_not_there, answers_at_a_terminal, a_user_at_a_terminal, a_socket_that_nobody_serves, a_stop_is_waited_for, a_person_who_types_no_words]
 LONG = [a_stop_is_waited_for]
 
 if __name__ == "__main__":

@@ -7,8 +7,9 @@ import contextlib
 import os
 import sys
 import time
+import urllib.request
 
-from client import begin, finish, send
+from client import begin, finish, free_port, send
 from keeping import Room
 from scene import check, main
 
@@ -130,6 +131,26 @@ def files_of_jobs():
         return "from the spool and from the folder"
 
 
+def removed_by_its_number():
+    """`remove` takes a job out of the spool and, where jobs are kept, its file out of the folder; the log of jobs and the metrics have it as removed."""
+    with Desk(keeps=True) as desk:
+        plain, status = desk.line(), free_port()
+        desk.line = lambda: [*plain, "--log-jobs", "--status", str(status)]
+        desk.start()
+        desk.send(1, LONG)
+        desk.send(2, host="127.0.0.2")
+        desk.await_files(2)
+        desk.await_status("job 2 lp")
+        told = desk.tell("remove", "lp", "2")
+        check("removed 002 ann" in told, told)
+        desk.await_files(1)
+        check(desk.files("job") == ["1.job"], desk.files("job"))
+        desk.await_log("job 2 lp 002 ann@h1 1 pages 1 octets removed in ")
+        seen = urllib.request.urlopen(f"http://127.0.0.1:{status}/metrics", timeout=10).read().decode()
+        check("\nhurgwaye_jobs_removed_total 1\n" in seen, seen)
+    return "from both, and told"
+
+
 def a_failed_file():
     """One that has failed is printed again, and removed, by its number; whose it is is told."""
     with Desk(keeps=True) as desk:
@@ -183,7 +204,7 @@ def all_failed_files():
         return "all of a queue, and all"
 
 
-SCENES = [jobs_of_two_hosts, an_arriving_job, what_would_help, files_of_jobs, a_failed_file, all_failed_files, a_job_that_waits_for_pages]
+SCENES = [jobs_of_two_hosts, an_arriving_job, what_would_help, files_of_jobs, removed_by_its_number, a_failed_file, all_failed_files, a_job_that_waits_for_pages]
 
 
 if __name__ == "__main__":

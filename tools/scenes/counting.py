@@ -90,6 +90,21 @@ def a_waiting_file_is_deleted():
         return f"within {took:.1f} s"
 
 
+def each_queue_s_waiting_jobs():
+    """How many jobs wait in the folder stands at the card of their queue, and in its line and measure."""
+    with Counted() as desk:
+        desk.start()
+        desk.says("hold bad", "")
+        for number in (1, 2, 3):
+            desk.send(number, queue="bad")
+        desk.await_status("parked bad 3")
+        page = desk.page("/")
+        cards = {name: page[page.index(f"<bdi>{name}</bdi>", page.index('id="queues"')):].split("</section>")[0] for name in ("lp", "bad")}
+        check("3 jobs wait in the folder" in cards["bad"] and "wait in the folder" not in cards["lp"], cards)
+        check('\nhurgwaye_queue_parked_jobs{queue="bad"} 3\n' in desk.page("/metrics"), desk.page("/metrics"))
+    return "at its own card"
+
+
 def what_a_stop_leaves_is_counted():
     """Files of jobs that wait are deleted just before a stop: it tells how many are left, and that the others are gone."""
     with Counted() as desk:
@@ -330,7 +345,7 @@ def a_stop_behind_a_stop():
     return ", ".join(seen)
 
 
-SCENES = [a_failed_file_is_deleted, a_waiting_file_is_deleted, what_a_stop_leaves_is_counted, a_job_whose_file_is_gone, what_is_put_there_is_not_written_over, what_is_no_job_is_not_resent, a_lock_is_deleted, an_accounts_lock_is_deleted,
+SCENES = [a_failed_file_is_deleted, a_waiting_file_is_deleted, each_queue_s_waiting_jobs, what_a_stop_leaves_is_counted, a_job_whose_file_is_gone, what_is_put_there_is_not_written_over, what_is_no_job_is_not_resent, a_lock_is_deleted, an_accounts_lock_is_deleted,
           numbers_that_no_job_has, a_temporary_that_is_a_folder, a_job_that_is_not_kept_is_logged_once, what_is_fed_is_not_lost, a_stop_behind_a_stop]
 
 

