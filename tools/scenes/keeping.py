@@ -22,6 +22,8 @@ from scene import PROGRAM, check, main, size
 # What is said of a kept job's file that isn't as it was kept.
 CHANGED = "it isn't as it was kept: its octets changed, it lacks some, or it has more"
 KILLS = size("KILLS", 200, 20)
+# How many jobs each client sends to a queue whose printer fails at each: its queue is started again for one of them each.
+FAILING = 60
 PAUSE = float(os.environ.get("PAUSE", "0.5"))
 CLIENTS = 8
 CONFIG = """pages = 256
@@ -118,14 +120,14 @@ class Sender:
         self.room, self.number, self.host = room, number, f"127.0.1.{number + 1}"
         self.random = random.Random(seed)
         self.whole, self.taken, self.removed = [], [], set()
-        self.stops = False
+        self.failing, self.stops = 0, False
 
     def text(self, job, queue):
         lines = self.random.choice((1, 3, 40, 1500))
         return "".join(f"<{self.number}.{job}.{queue}.{line}/{lines}>\n" for line in range(lines)).encode()
 
     def one(self, job):
-        queue = self.random.choice(("lp", "lp", "plotter", "plotter", "bad"))
+        queue = self.random.choice(("lp", "lp", "plotter", "plotter", *(("bad",) if self.failing < FAILING else ())))
         octets, said = self.text(job, queue), control(job % 1000, f"u{self.number}")
         with contextlib.closing(connect(self.room.port, self.host, 10)) as peer:
             peer.sendall(b"\x02" + queue.encode() + b"\n")
@@ -144,6 +146,7 @@ class Sender:
                 return None
             # From here on the job may be taken, whatever comes back.
             self.whole.append((job, queue, octets))
+            self.failing += queue == "bad"
             peer.sendall(said + b"\0")
             if answer(peer) == 0:
                 self.taken.append((job, queue, octets))

@@ -489,8 +489,8 @@ def removals_amid_feeding():
 
 
 def parts_without_a_folder():
-    """With `--parts` and no folder: jobs of two held queues and of one whose printer has failed are refused for now beyond their parts; each other one is taken
-    in the end and printed, and so are those that were taken, once their queues print."""
+    """With `--parts` and no folder: jobs of two held queues and of one whose printer has failed are refused for now beyond their parts; each other one is taken,
+    though it has to wait for room in its queue's part, and printed, and so are those of the three that were taken, once these print."""
     with Room(config(), "--parts", keeps=False) as room:
         os.symlink("/dev/full", room.path(int(FAILED[1:])))
         room.start()
@@ -502,24 +502,17 @@ def parts_without_a_folder():
             check(time.monotonic() < until, "the printer doesn't fail")
             time.sleep(0.1)
         plan, others = site_plan(JOBS, True)
-        taken, refused, again, lock = [], {}, [0], threading.Lock()
+        taken, refused, lock = [], {}, threading.Lock()
 
         def client(number):
             for at in range(number, len(plan), CLIENTS):
                 queue, lines = plan[at]
-                # (as LPRng does, a client tries again where it is refused for now; for a queue that can't print it gives up)
-                for _ in range(1 if queue in (*HELD, FAILED) else 2_000):
-                    octet = send(room.port, at, job(queue, number, at, lines), queue, f"127.0.1.{number + 1}", f"u{number}")
-                    with lock:
-                        if octet == 0:
-                            taken.append((queue, number, at))
-                        elif queue in others:
-                            again[0] += 1
-                        else:
-                            refused[queue, octet] = refused.get((queue, octet), 0) + 1
+                octet = send(room.port, at, job(queue, number, at, lines), queue, f"127.0.1.{number + 1}", f"u{number}")
+                with lock:
                     if octet == 0:
-                        break
-                    time.sleep(0.01)
+                        taken.append((queue, number, at))
+                    else:
+                        refused[queue, octet] = refused.get((queue, octet), 0) + 1
 
         together(CLIENTS, client)
         check({queue for queue, _ in refused} == {*HELD, FAILED} and {octet for _, octet in refused} == {2}, f"refused: {refused}")
@@ -536,7 +529,7 @@ def parts_without_a_folder():
             check_order(seen)
             want = {(number, at) for name, number, at in taken if name == queue}
             check(set(seen) == want and len(seen) == len(want), f"{queue}: {len(seen)} printed of {len(want)} {told}")
-    return f"{len(taken)} of {len(plan)} taken, {sum(refused.values())} of the three queues refused for now, {again[0]} of the others, which were sent again"
+    return f"{len(taken)} of {len(plan)} taken, {sum(refused.values())} of the three queues refused for now, none of the others"
 
 
 def pages_by_file():
