@@ -2,9 +2,10 @@
 # Runs all rows and tests by `rt try`, and each program on its stored run: what is compiled is run, and nothing is proved. It says
 # where `rt version` is none of the kits that the README names, and on standard error which crate has ended; then comes what failed, and
 # a line for each crate. The last line is 'N passed, M failed', where a stored run counts as one, and so do docs/TRUSTED.md, which must
-# not be stale, the names and options that documents and comments tell of, which must be there, the rooms of crates.txt, the commands of the first page, and
-# each scene of tools/scenes in its short form, but for those that measure time or memory; the exit status is 0 only where none failed. As many crates are tried at a time as there are processors, or as RT_JOBS says; each
-# takes up to 2 GB of memory.
+# not be stale, the names and options that documents and comments tell of, which must be there, the rooms of crates.txt, the types of the
+# edits of crates that changed (as against the commit BASE, or else the last one but one), the commands of the first page, and each scene
+# of tools/scenes in its short form, but for those that measure time or memory; the exit status is 0 only where none failed. As many
+# crates are tried at a time as there are processors, or as RT_JOBS says; each takes up to 2 GB of memory.
 set -u
 cd "$(dirname "${BASH_SOURCE[0]}")/.." || exit 2
 echo "tests by rt try: nothing is proved here (bash .ci/run proves)"
@@ -27,6 +28,18 @@ for check in "tools/trusted.py --check" tools/documents.py tools/rooms.py; do
         failed=$((failed + 1))
     fi
 done
+
+# Edits of crates that differ from the commit BASE, or else from the last one but one, have to be well typed. (Elsewhere than in a git checkout none is looked at.)
+changed=$(git diff --name-only "${BASE:-HEAD~1}" -- crates 2> "$folder/git" | cut -d/ -f2 | sort -u)
+if [ -n "$changed" ]; then
+    echo "the types of the edits of: $changed" | tr '\n' ' ' >&2
+    # shellcheck disable=SC2086
+    if python3 tools/edit_types.py $changed; then
+        passed=$((passed + 1))
+    else
+        failed=$((failed + 1))
+    fi
+fi
 
 # Crates beside the gate are tried in a copy of the repository, in which they are crates as others.
 copy=$(dirname "$(BESIDE_COPY=$folder/copy bash tools/beside.sh test_surface path)") || exit 2
