@@ -1,6 +1,7 @@
 -- How a text's characters are written in HTML, and as the value of a Prometheus label.
 use Rattle.std.specs.Prelude.{ℕ, ◌+◌, Bool, ◌&&◌, ◌||◌, List, [], ◌∷◌, ◌==◌, nat_lt, nat_le, if◌then◌else◌, codes}
 use Rattle.std.specs.List.{flat_map}
+use Rattle.std.specs.Str.{encode_utf8_all}
 use Rattle.html_text.specs.declared.form.Form.{Form}
 use Rattle.html_text.specs.declared.form.Form.TheVariants.{Html, Label}
 
@@ -33,6 +34,13 @@ label_char c =
     else if c == 92 then codes "\\\\"
     else if c == 10 then codes "\\n"
     else c ∷ []
+
+-- the octets of a character, as it is written in HTML and in a label's value
+abbrev pub html_octets : ℕ → List ℕ
+html_octets c = encode_utf8_all (html_char c)
+
+abbrev pub label_octets : ℕ → List ℕ
+label_octets c = encode_utf8_all (label_char c)
 
 abbrev pub written_char : Form → ℕ → List ℕ
 written_char Html c = html_char c

@@ -3,7 +3,7 @@
 ghost use Rattle.std.specs.Prelude.{◌≡◌, ◌++◌, OnOk, string_bytes};
 ghost use Rattle.std.specs.Str.{chars, encode_utf8_all};
 ghost use Rattle.std.specs.Str.Lossy.{utf8_lossy};
-ghost use Rattle.html_text.specs.Written.{html_char, label_char, picture, written, written_char};
+ghost use Rattle.html_text.specs.Written.{html_octets, label_octets, picture, written, written_char};
 
 use std::alloc::{AllocError, Global};
 
@@ -28,7 +28,7 @@ fn picture(c: char) -> char
 }
 
 fn push_html(out: &mut String, c: char) -> Result<(), AllocError>
-    ensures { OnOk result (string_bytes out.new ≡ string_bytes out.old ++ encode_utf8_all (html_char c)) }
+    ensures { OnOk result (string_bytes out.new ≡ string_bytes out.old ++ html_octets c) }
 {
     match c {
         '<' => out.push_str("&lt;"),
@@ -46,7 +46,7 @@ fn push_html(out: &mut String, c: char) -> Result<(), AllocError>
 }
 
 fn push_label(out: &mut String, c: char) -> Result<(), AllocError>
-    ensures { OnOk result (string_bytes out.new ≡ string_bytes out.old ++ encode_utf8_all (label_char c)) }
+    ensures { OnOk result (string_bytes out.new ≡ string_bytes out.old ++ label_octets c) }
 {
     match c {
         '"' => out.push_str("\\\""),

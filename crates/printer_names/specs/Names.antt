@@ -1,7 +1,7 @@
 -- Which printer of a configuration a name means: `5` the printer of that number, `lp` the first one of the queue lp, `lp.2` its second one.
 -- Digits alone are a number, whatever queue is called so. Where a name means two printers, as `a.2` where there are a queue a of two printers
 -- and a queue a.2, it means none.
-use Rattle.std.specs.Prelude.{◌≡◌, ◌⊎◌, ◌+◌, ◌<◌, ◌^◌, ◌==◌, ◌++◌, ◌∷◌, ℕ, true, false, zero, suc, List, Option, Some, None, Result, Ok, Err, if◌then◌else◌}
+use Rattle.std.specs.Prelude.{◌≡◌, ◌⊎◌, ◌+◌, ◌<◌, ◌^◌, ◌==◌, ◌++◌, ◌∷◌, MatchOption, ℕ, true, false, zero, suc, List, Option, Some, None, Result, Ok, Err, if◌then◌else◌}
 use Rattle.std.specs.Fmt.{decimal}
 use Rattle.config_values.specs.Config as C
 use Rattle.program_edge.specs.Numerals.{IsPlainNumber}
@@ -36,6 +36,10 @@ IsNumberedOf c name printer =
 
 abbrev pub NoOne : (ℕ → Type 0) → Type 0
 NoOne P = (printer : ℕ) → P printer → ⊥
+
+-- what was found is such a printer, and nothing was only where there is none
+abbrev pub IsFound : (ℕ → Type 0) → Option ℕ → Type 0
+IsFound P found = MatchOption found (NoOne P) P
 
 -- the name means this printer alone, by its queue
 abbrev pub IsOfQueue : C.Config → List ℕ → ℕ → Type 0

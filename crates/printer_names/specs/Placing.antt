@@ -1,5 +1,5 @@
 -- What the printers of a configuration print to, as its texts and the words of a command line say it.
-use Rattle.std.specs.Prelude.{◌≡◌, ◌≢◌, ◌<◌, ◌==◌, ◌++◌, ◌∷◌, ℕ, true, List, Ok, Err, codes, length}
+use Rattle.std.specs.Prelude.{◌≡◌, ◌≢◌, ◌<◌, ◌==◌, ◌++◌, ◌∷◌, Bool, ℕ, true, List, Ok, Err, codes, length}
 use Rattle.std.specs.List.{AllPairs, AllZip, list_any}
 use Rattle.config_values.specs.Config as C
 use Rattle.program_edge.specs.Places.{IsPlaceText}
@@ -18,6 +18,10 @@ IsTold c told placed = IsNthOf c told.0 told.1 placed.printer × IsPlaceText tol
 -- a word is for this printer, and says what it prints to
 abbrev pub IsSaid : C.Config → NamedPrinter → PlacedPrinter → Type 0
 IsSaid c said placed = Means c said.name.now (Ok placed.printer) × (placed.place ≡ said.place)
+
+-- whether one of these is for this printer
+abbrev pub is_placed : List PlacedPrinter → (printer : ℕ) → Bool
+is_placed printers printer = list_any (λ (placed : PlacedPrinter). placed.printer == printer) printers
 
 -- no two of these are for one printer
 abbrev pub AreOfDifferentPrinters : List PlacedPrinter → Type 0

@@ -1,10 +1,10 @@
 //! What the printers of a configuration print to.
 
-ghost use Rattle.std.specs.List.{AllZip, list_any};
+ghost use Rattle.std.specs.List.{AllZip};
 ghost use Rattle.std.specs.Prelude.{◌≡◌, ◌==◌, ◌++◌, IfErr, IfOk, List, MatchOption, MatchResult, OnOk, map};
 ghost use Rattle.program_edge.specs.declared.places.PlacedPrinter.{PlacedPrinter};
 ghost use Rattle.printer_names.specs.Names.{NoOne};
-ghost use Rattle.printer_names.specs.Placing.{AreOfDifferentPrinters, ArePlaced, IsOfTexts, IsPlacingFault, IsSaid, IsTold, IsUnnamed};
+ghost use Rattle.printer_names.specs.Placing.{AreOfDifferentPrinters, ArePlaced, IsOfTexts, IsPlacingFault, IsSaid, IsTold, IsUnnamed, is_placed};
 ghost use Rattle.spool_config.specs.Places.{told_view};
 
 use crate::fault::PlacingFault;
@@ -17,7 +17,7 @@ use std::alloc::Global;
 
 /// Whether one of these is for the printer of this number.
 fn has_printer(printers: &[PlacedPrinter], number: u32) -> bool
-    ensures { result ≡ list_any (λ (placed : PlacedPrinter). placed.printer == number) printers.now }
+    ensures { result ≡ is_placed printers.now number }
 {
     printers.iter().any(|placed| placed.printer == number)
 }

@@ -1,7 +1,7 @@
 //! Which printer of a configuration a name means.
 
 ghost use Rattle.std.specs.Prelude.{◌≡◌, MatchOption};
-ghost use Rattle.printer_names.specs.Names.{IsFirst, IsNthOf, IsNumbered, IsNumberedOf, Means, NoOne, only_one};
+ghost use Rattle.printer_names.specs.Names.{IsFirst, IsFound, IsNthOf, IsNumbered, IsNumberedOf, Means, NoOne, only_one};
 
 use crate::cutting::cut_at_last;
 use crate::named::is_digits;
@@ -19,7 +19,7 @@ pub enum NameFault {
 
 /// The nth, from 1, of the printers that serve a queue, by rising numbers.
 pub(crate) fn nth_printer(config: &Config, queue: u32, nth: u64) -> Option<u32>
-    ensures { MatchOption result (NoOne (IsNthOf config.now queue nth)) (IsNthOf config.now queue nth) }
+    ensures { IsFound (IsNthOf config.now queue nth) result }
 {
     let mut seen = 0u64;
     for before in 0..config.printer_count() {
@@ -49,7 +49,7 @@ fn numbered(config: &Config, name: &[u8]) -> Option<u32>
 
 /// The first printer of the queue of this name.
 fn first(config: &Config, name: &[u8]) -> Option<u32>
-    ensures { MatchOption result (NoOne (IsFirst config.now name.now)) (IsFirst config.now name.now) }
+    ensures { IsFound (IsFirst config.now name.now) result }
 {
     let queue = config.queue_named(name)?;
     nth_printer(config, queue, 1)
