@@ -1,5 +1,7 @@
 //! How all of a server stands at one moment.
 
+ghost use Rattle.std.specs.Prelude.{◌≡◌};
+
 use crate::surveyor::Surveyor;
 use log::Log;
 use server_house::HouseLedger;
@@ -30,7 +32,13 @@ pub struct Survey {
 
 impl Survey {
     /// What the edge knows beside a spool that this shows.
-    pub fn outside<'a>(&'a self, sight: &'a Sight) -> Outside<'a> {
+    pub fn outside<'a>(&'a self, sight: &'a Sight) -> Outside<'a>
+        ensures uptime { result.uptime ≡ self.now.uptime }
+        ensures stops { result.stops ≡ self.now.stops }
+        ensures segment { result.segment ≡ sight.now.segment }
+        ensures lobby { result.lobby ≡ self.now.lobby }
+        ensures kept { result.kept ≡ self.now.kept }
+    {
         Outside {
             uptime: self.uptime,
             stops: self.stops,
