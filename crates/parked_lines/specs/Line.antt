@@ -1,5 +1,5 @@
 -- The jobs of a queue, by the numbers of their files.
-use Rattle.std.specs.Prelude.{◌≡◌, ◌≢◌, ◌<◌, ◌&&◌, ◌==◌, ℕ, Bool, not, List, Option, find, nat_lt, if◌then◌else◌, length, slice_index_or}
+use Rattle.std.specs.Prelude.{◌≡◌, ◌≢◌, ◌<◌, ◌&&◌, ◌==◌, ℕ, Bool, not, List, MatchOption, Option, None, find, nat_lt, if◌then◌else◌, length, slice_index_or}
 use Rattle.std.specs.List.{AllPairs, list_any}
 use Rattle.std.specs.Option.{option_map}
 use Rattle.parked_lines.specs.declared.job.JobSize.{JobSize}
@@ -66,3 +66,7 @@ may_feed jobs job = is_waiting job.state && not (has_earlier jobs job.sender job
 pub record IsAt (jobs : List ParkedJob) (number place : ℕ) : Type 0 where
   pub within : place < length jobs
   pub number_is : (d : ParkedJob) → (slice_index_or jobs place d).number ≡ number
+
+-- this is the place of the job of this number, and there is none only where no job has it
+abbrev pub IsPlaceOf : List ParkedJob → (number : ℕ) → (place : Option ℕ) → Type 0
+IsPlaceOf jobs number place = MatchOption place (job_of jobs number ≡ None) (IsAt jobs number)

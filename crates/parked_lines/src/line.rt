@@ -3,7 +3,7 @@
 ghost use Rattle.std.specs.Prelude.{◌≡◌, ◌<◌, ◌≤◌, [], None, Some, OnErr, OnOk, IfOk, MatchOption, count_by, filter, find, is_some, length, nat_lt, position, take};
 ghost use Rattle.std.specs.Bool.{OnFalse, OnTrue};
 ghost use Rattle.std.specs.List.{AllWithin, list_any, take_while};
-ghost use Rattle.parked_lines.specs.Line.{Becomes, IsAt, IsRising, has_earlier, has_parked, is_earlier, is_fed_of, job_of, may_feed, way_of};
+ghost use Rattle.parked_lines.specs.Line.{Becomes, IsAt, IsPlaceOf, IsRising, has_earlier, has_parked, is_earlier, is_fed_of, job_of, may_feed, way_of};
 ghost use Rattle.parked_lines.specs.Parts.{pages_used, rows_used};
 ghost use Rattle.parked_lines.specs.States.{is_fed, is_parked};
 
@@ -64,7 +64,7 @@ impl QueueLine {
 
     /// The place of the job of this number.
     fn place_of(&self, number: u64) -> Option<usize>
-        ensures { MatchOption result (job_of self.now number ≡ None) (λ place. IsAt self.now number place) }
+        ensures { IsPlaceOf self.now number result }
     {
         let place = self.seek(number);
         if place < self.jobs.len() && self.jobs[place].number == number {

@@ -55,6 +55,10 @@ with_size count job = record job {
 abbrev pub with_file : (name : List ℕ) → (count : ℕ) → LoneJob → LoneJob
 with_file name count job = record (with_size count job) { names = job.names ++ name ∷ [] }
 
+-- the job as a file begins whose name may be known already
+abbrev pub with_begun : (is_new : Bool) → (name : List ℕ) → (count : ℕ) → LoneJob → LoneJob
+with_begun is_new name count job = if is_new then with_file name count job else with_size count job
+
 -- a file begins, or is refused and changes nothing
 abbrev pub BeginsFile : (old : LoneJob) → (name : List ℕ) → (count : ℕ) → Result (Unit {0}) Refusal → (new : LoneJob) → Type 0
 BeginsFile old name count (Ok done) new = TakesFile old name count × (new ≡ with_file name count old)

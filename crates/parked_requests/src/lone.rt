@@ -51,7 +51,7 @@ fn has_prints(names: &FileNames, prints: &FileNames) -> bool
 impl LoneJob {
     ghost use Rattle.parked_requests.specs.Lone.{BeginsFile, IsNew, TakesControl, TakesFile, RefusesFile};
     ghost use Rattle.parked_requests.specs.Lone.{is_whole, may_lend, pages_with, receipt_of};
-    ghost use Rattle.parked_requests.specs.Lone.{with_end, with_file, with_page, with_size};
+    ghost use Rattle.parked_requests.specs.Lone.{with_begun, with_end, with_page, with_size};
 
     /// A job of which nothing has come, which may have `limit` pages of `page_size` octets each.
     pub fn new(alloc: Global, limit: u32, page_size: u32) -> LoneJob
@@ -127,7 +127,7 @@ impl LoneJob {
     /// A data file has begun of a job that the spool has: it is counted. Answers whether its name is known from now on, for which
     /// memory may be refused.
     pub(crate) fn follow_file(&mut self, name: FileName, count: u64) -> bool
-        ensures { self.new ≡ (if result then with_file name count self.old else with_size count self.old) }
+        ensures { self.new ≡ with_begun result name count self.old }
     {
         self.count_file(count);
         self.names.push(name).is_ok()

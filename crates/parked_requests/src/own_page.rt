@@ -1,7 +1,7 @@
 //! The page that a session has for jobs that come beside the spool.
 
 ghost use Rattle.std.specs.Prelude.{◌≡◌, ◌<◌, [], IfSome, IsTrue};
-ghost use Rattle.parked_requests.specs.Sizes.{has_size};
+ghost use Rattle.parked_requests.specs.Sizes.{IsEmptyPage, has_size};
 
 use page_pool::{PageTicket, Pool};
 use std::alloc::Global;
@@ -39,7 +39,7 @@ impl OwnPage {
 
     /// The page, empty. None while it is lent, or where memory for it is refused.
     pub(crate) fn take(&mut self, alloc: Global) -> Option<PageTicket>
-        ensures page { IfSome result (λ t. t ≡ record { octets = []; page_size = self.old.page_size }) }
+        ensures page { IfSome result (IsEmptyPage self.old.page_size) }
         ensures size { self.new.page_size ≡ self.old.page_size }
     {
         if self.pool.is_none() {

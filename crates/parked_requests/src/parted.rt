@@ -19,7 +19,8 @@ pub trait QueueParts {
         sender: u32,
         queue: &[u8],
     ) -> Result<u64, Refusal>
-        ensures { (job : ℕ) → OpensWithin Q.carries spool.old sender job queue.now result spool.new };
+        ensures { (job : ℕ)
+            → OpensWithin Q.carries spool.old sender job queue.now result spool.new };
 }
 
 /// A spool of which each queue has a part, and no more.
