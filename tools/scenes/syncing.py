@@ -25,7 +25,7 @@ KEEPING = ((r"fdatasync\(\d+<\S+\.tmp>\) += 0", "tmp"), (r"rename\w*\(.*\.tmp.*\
            (r"(write|sendto)\(\d+<(socket|TCP).*\"\\0\"", "octet"))
 # And of one that is printed, to a file and to a folder: until its own file goes.
 PRINTING = ((r"fdatasync\(\d+<\S+/printer-1>\) += 0", "printer"), (r"fdatasync\(\d+<\S+/\.job-\d+>\) += 0", "file"),
-            (r"link\w*\(.*/job-\d+.*\) += 0", "link"), (r"fsync\(\d+<\S+/jobs>\) += 0", "folder"), (r"unlink\w*\(.*\d\.job\".*\) += 0", "gone"))
+            (r"link\w*\(.*/job-\d+.*\) += 0", "link"), (r"fsync\(\d+<\S+/jobs>\) += 0", "folder"), (r"rename\w*\(.*\d\.job\", .*\.tmp\"\) += 0", "gone"))
 
 
 class Watched(Room):
@@ -135,7 +135,7 @@ def what_is_printed_is_synced_before_the_job_goes():
                 check(send(room.port, number, b"printed", queue) == 0, "it is taken")
                 room.await_files(0)
                 time.sleep(0.3)
-            calls = room.calls("unlink", PRINTING)
+            calls = room.calls('.job", ', PRINTING)
             check(calls == wanted, f"{queue}: {calls}")
             seen += calls
             for path in glob.glob(f"{room.folder}/trace.*"):

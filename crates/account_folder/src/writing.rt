@@ -53,7 +53,8 @@ struct SegmentDraft {
 impl SegmentDraft {
     /// Its head, at the end of the text.
     fn begin(alloc: Global, head: &Head, text: &mut Vec<u8>) -> Result<SegmentDraft, AllocError>
-        ensures written { IfOk result (λ d. HasWritten d.writer (I.head_items (head_seen head.now))) }
+        ensures written { IfOk result
+            (λ d. HasWritten d.writer (I.head_items (head_seen head.now))) }
         ensures text { OnOk result (text.new.items
             ≡ text.old.items ++ I.text_of (I.head_items (head_seen head.now))) }
     {

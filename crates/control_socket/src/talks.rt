@@ -275,7 +275,8 @@ impl Talks {
         stream: UnixStream,
         now: u64,
     ) -> Result<(), AllocError>
-        ensures { OnOk result ((talk : ControlTalk) × (self.new.list.items ≡ self.old.list.items ++ talk ∷ [])
+        ensures { OnOk result ((talk : ControlTalk)
+            × (self.new.list.items ≡ self.old.list.items ++ talk ∷ [])
             × IsAccepted number (after now self.old.times.line_ms) talk) }
     {
         let stage = TalkStage::accepted(self.alloc, self.most_line, now, &self.times);

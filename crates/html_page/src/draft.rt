@@ -190,7 +190,8 @@ impl Draft {
     ///
     /// AllocError where memory for it is refused.
     pub(crate) fn end_line(&mut self) -> Result<(), AllocError>
-        ensures written { OnOk result (draft_written self.new ≡ draft_written self.old ++ part_octets LineEnd) }
+        ensures written { OnOk result
+            (draft_written self.new ≡ draft_written self.old ++ part_octets LineEnd) }
         ensures unchanged { OnErr result (draft_written self.new ≡ draft_written self.old) }
     {
         self.text.push_str("\n")

@@ -3,3 +3,4 @@ pub mod HeldLines
 pub mod Syncs
 pub mod Ends
 pub mod Frame
+pub mod EndedFiles

@@ -3,6 +3,7 @@
 ghost use Rattle.std.specs.Prelude.{◌≡◌};
 ghost use Rattle.job_disk.specs.Ends.{stage_after};
 
+use crate::ended_files::{EndedFiles, Sweep};
 use crate::fault::DiskFault;
 use crate::jobs::FolderJobs;
 use crate::lines::{FileRemoval, HeldLines};
@@ -53,6 +54,9 @@ pub struct Disk<'a, R> {
     standing: Mutex<FolderJobs>,
     syncs: Mutex<Syncs>,
     ended: Condvar,
+    // The files of jobs that have ended, which are to be removed.
+    swept: Mutex<EndedFiles>,
+    broom: Condvar,
 }
 
 impl<'a, R: Files<File = File> + Wait> Disk<'a, R> {
@@ -81,6 +85,8 @@ impl<'a, R: Files<File = File> + Wait> Disk<'a, R> {
             standing: Mutex::new(standing),
             syncs: Mutex::new(Syncs::new()),
             ended: Condvar::new(),
+            swept: Mutex::new(EndedFiles::new(alloc)),
+            broom: Condvar::new(),
         })
     }
 
@@ -201,13 +207,65 @@ impl<'a, R: Files<File = File> + Wait> Disk<'a, R> {
         Err(io::Error::from(io::ErrorKind::Other))
     }
 
+    /// Takes the whole file of a job away that has ended. Where somebody sweeps it gets the name of one that comes, which no start prints and each
+    /// removes, and waits to be removed.
+    fn take_away(&self, number: u64) -> io::Result<()> {
+        let stage = FileStage::Whole;
+        let whole = KeptFileName { number, stage };
+        if !self.swept.lock(self.rt).takes_one()
+            || self.rename(whole, FileStage::Temporary).is_err()
+        {
+            return self.remove(whole);
+        }
+        if self.swept.lock(self.rt).add(number) {
+            self.broom.notify_one();
+            return Ok(());
+        }
+        let stage = FileStage::Temporary;
+        self.remove(KeptFileName { number, stage })
+    }
+
+    /// Somebody sweeps from now on: whoever calls `sweep` until that answers None. One at a time does.
+    pub fn begin_sweeping(&self) {
+        self.swept.lock(self.rt).begin();
+    }
+
+    /// Removes the next file of a job that has ended, and waits for one where none is there. None once sweeping has ended, and none is left.
+    ///
+    /// An error where it can't be removed: it stays until the next start then, which doesn't print it.
+    pub fn sweep(&self) -> Option<Result<(), DiskFault<'a>>> {
+        let mut swept = self.swept.lock(self.rt);
+        for _ in 0..u64::MAX {
+            match swept.next() {
+                Sweep::Remove(number) => {
+                    drop(swept);
+                    let stage = FileStage::Temporary;
+                    let name = KeptFileName { number, stage };
+                    return Some(
+                        self.remove(name)
+                            .map_err(|cause| self.fault_at(name, cause)),
+                    );
+                }
+                Sweep::Wait => swept = self.broom.wait(self.rt, swept),
+                Sweep::Leave => break,
+            }
+        }
+        None
+    }
+
+    /// Whoever sweeps goes once no file is left: each that comes from now on is removed by whoever ends its job.
+    pub fn end_sweeping(&self) {
+        self.swept.lock(self.rt).end();
+        self.broom.notify_all();
+    }
+
     /// Does with the file of a job what its end asks for. The folder isn't synced for it: after a crash the job may be printed again,
     /// which loses nothing.
     fn act(&self, number: u64, end: JobEnd) -> Result<(), DiskFault<'a>> {
         let stage = FileStage::Whole;
         let name = KeptFileName { number, stage };
         let done = match stage_after(end) {
-            None => self.remove(name),
+            None => self.take_away(number),
             Some(stage) => self.rename(name, stage),
         };
         if let Err(cause) = done {

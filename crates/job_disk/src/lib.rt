@@ -2,6 +2,7 @@
 #![tactic(auto)]
 
 mod disk;
+mod ended_files;
 mod fault;
 mod fed;
 mod folder;

@@ -16,6 +16,7 @@ use printer_devices::OpenedPlace;
 use server_board::{Board, Presenter};
 use server_care::{Care, Counter};
 use server_clients::{Answering, Gate, Porter, announce_all};
+use server_commands::Commander;
 use server_feeding::{Feeding, watch};
 use server_house::{
     Host, House, HouseLedger, HouseSeat, PrintingSeat, Roles, Seats, ServerFault, serves_at,
@@ -40,6 +41,8 @@ struct Crew<E: HouseLedger> {
     seatless: Vec<JoinHandle<()>>,
     // Who writes the account's segments, where they become files.
     archiving: Vec<JoinHandle<()>>,
+    // Who removes the files of kept jobs that have ended, where jobs are kept.
+    sweeping: Vec<JoinHandle<()>>,
     // All were started.
     is_whole: bool,
 }
@@ -112,6 +115,7 @@ impl<E: HouseLedger + Send + Sync> Crew<E> {
             steward: None,
             seatless: Vec::new(alloc),
             archiving: Vec::new(alloc),
+            sweeping: Vec::new(alloc),
             is_whole: true,
         }
     }
@@ -161,7 +165,8 @@ impl<E: HouseLedger + Send + Sync> Crew<E> {
         }
     }
 
-    /// Starts the feeder, the watcher and the account's keeper, and where segments become files who writes these.
+    /// Starts the feeder, the watcher and the account's keeper; where segments become files who writes these, and where jobs are kept who
+    /// removes the files of those that have ended.
     fn start_keepers<'s, R: Files<File = File> + Clock + Log + Wait + Sync, N>(
         &mut self,
         scope: &Scope<'s, N>,
@@ -183,6 +188,10 @@ impl<E: HouseLedger + Send + Sync> Crew<E> {
             let thread = scope.spawn(move || hall.archive_all());
             self.is_whole &= keep(&mut self.archiving, thread);
         }
+        if hall.begin_sweeping() {
+            let thread = scope.spawn(move || hall.sweep_all());
+            self.is_whole &= keep(&mut self.sweeping, thread);
+        }
     }
 
     /// Starts the steward, and who shows the status where it is shown.
@@ -198,7 +207,10 @@ impl<E: HouseLedger + Send + Sync> Crew<E> {
     {
         let House { spool, hall } = house;
         let (counter, board) = reached;
-        let thread = scope.spawn(move || Care { spool, hall }.look_after(steward, counter));
+        let commands = Commander { spool, hall };
+        let thread = scope.spawn(move || Care { spool, hall }.look_after(
+            steward, counter, commands,
+        ));
         self.steward = thread.ok();
         self.is_whole &= self.steward.is_some();
         if let Some(board) = board {
@@ -222,6 +234,7 @@ impl<E: HouseLedger + Send + Sync> Crew<E> {
             steward,
             seatless,
             archiving,
+            sweeping,
             ..
         } = self;
         let hall = house.hall;
@@ -245,6 +258,11 @@ impl<E: HouseLedger + Send + Sync> Crew<E> {
         // Nobody rotates the account any more.
         hall.end_archiving();
         for thread in archiving {
+            thread.join(rt);
+        }
+        // No job ends any more.
+        hall.end_sweeping();
+        for thread in sweeping {
             thread.join(rt);
         }
         let seats = Seats { sessions, printers };

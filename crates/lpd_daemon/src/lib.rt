@@ -6,10 +6,8 @@
 #![tactic(auto)]
 
 mod crew;
-mod descriptors;
 mod preparing;
 mod serving;
-mod warnings;
 
 pub use control_socket::{OpenFault, SocketFile};
 pub use printer_devices::SHARED_FOLDERS;

@@ -10,16 +10,17 @@ ghost use Rattle.spool_ledgers.specs.Blanks.{AreFor, mark};
 
 use crate::crew::{Entrance, Returned, work};
 use crate::preparing::prepare;
-use crate::warnings::warn_of;
 use config_values::Config;
 use log::Log;
 use lpd_commands::OctetWrite;
 use program_edge::{Settings, StartFault};
 use server_care::Counter;
+use server_commands::end_answer;
 use server_house::{
     Hall, Host, House, HouseLedger, HouseSpool, OTHERS, PrintedLine, Roles, Seats, ServerFault,
     print_or_tell, sessions_of,
 };
+use server_start::warn_of;
 use shared_spool::{Blanks, Segment};
 use std::alloc::{AllocError, Global};
 use std::fs::{File, Files};
@@ -211,7 +212,9 @@ where
     let ended = finish(&hall, spool, seats, told, output);
     if let Some(counter) = counter {
         let left = hall.kept.as_ref().map_or(0, |kept| kept.left(hall.rt));
-        counter.end(hall.rt, hall.alloc, &ended, left);
+        // Without memory for the answer there is none.
+        let answer = end_answer(hall.alloc, &ended, left).unwrap_or(Vec::new(hall.alloc));
+        counter.end(hall.rt, answer.as_slice());
     }
     ended
 }

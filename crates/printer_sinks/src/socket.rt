@@ -97,8 +97,8 @@ fn send_first<D: Dial, P: Pause>(
     job: u64,
     octets: &[u8],
 ) -> (usize, SinkStage)
-    ensures adds { Adds result.0 job octets.now SinkStage.Idle (told spoken (D.connections dial.old))
-        (desk result.1 (D.connections dial.new)) }
+    ensures adds { Adds result.0 job octets.now SinkStage.Idle
+        (told spoken (D.connections dial.old)) (desk result.1 (D.connections dial.new)) }
     ensures stands { stands result.1 (D.connections dial.new) ≡ true }
 {
     if octets.is_empty() {

@@ -26,7 +26,8 @@ pub(crate) const PRINTER: Word = Word {
 
 /// Whether one of these has this name.
 fn has_name(printers: &[NamedPrinter], name: &str) -> bool
-    ensures { result ≡ list_any (λ (said : NamedPrinter). bytes_eq said.name.now name.now) printers.now }
+    ensures { result
+        ≡ list_any (λ (said : NamedPrinter). bytes_eq said.name.now name.now) printers.now }
 {
     printers.iter().any(|said| said.name == name)
 }

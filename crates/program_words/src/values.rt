@@ -27,7 +27,8 @@ pub(crate) fn text_of<'a>(matches: &ArgMatches<'a>, id: &str) -> Result<&'a str,
 
 /// The text of an option, if it is there.
 pub(crate) fn text_if<'a>(matches: &ArgMatches<'a>, id: &str) -> Option<&'a str>
-    ensures { option_map (λ text. text.now) result ≡ first_of id.now (rows_of (found_of matches.now)) }
+    ensures { option_map (λ text. text.now) result
+        ≡ first_of id.now (rows_of (found_of matches.now)) }
 {
     matches.get_str(id)
 }

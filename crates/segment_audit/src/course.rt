@@ -191,7 +191,8 @@ impl Course {
 
     /// Whether a segment begins amid the jobs from what this has come to, where a trim gives so much back.
     fn comes_to(&self, start: &Start, more: u128) -> bool
-        requires { more ≡ given_back (state_seen self.now.config self.now.audit.state) self.now.freed }
+        requires { more
+            ≡ given_back (state_seen self.now.config self.now.audit.state) self.now.freed }
         ensures { (c : A.Course) → IsCourse self.now c
             → (IsTrue result ↔ (start_seen start.now ≡ A.amid c)) }
     {

@@ -1,12 +1,10 @@
 //! What reaches a server beside its clients: what is asked at a control socket, and signals.
 
-use crate::commanding::AnswerLines;
 use control_lines::MOST_LINE;
 use control_socket::{AskedLine, ControlSocket, OpenFault, Pending, Signals, SocketFile, Times};
 use log::{Log, warn};
 use mio::Waker;
-use server_house::ServerFault;
-use std::alloc::{AllocError, Global};
+use std::alloc::Global;
 use std::fs::{File, Files};
 use std::net::Net;
 use std::rt::Clock;
@@ -16,20 +14,6 @@ use std::time::Duration;
 
 /// The longest time between two looks at signals and the clock, in milliseconds.
 const TURN_MS: u64 = 500;
-
-/// What is answered at the end of a server that ended so, in whose folder so many jobs are left. AllocError where memory is refused.
-fn end_answer(
-    alloc: Global,
-    ended: &Result<(), ServerFault>,
-    left: u64,
-) -> Result<Vec<u8>, AllocError> {
-    let mut answer = AnswerLines::new(alloc);
-    if left > 0 {
-        let line = format!(in alloc; "{left} jobs wait in the folder for the next start")?;
-        answer.line(&line)?;
-    }
-    answer.end_by(ended.as_ref().err())
-}
 
 /// What reaches a server beside its clients.
 #[derive(Drop)]
@@ -114,20 +98,11 @@ impl Counter {
         }
     }
 
-    /// The server has ended so, and so many jobs are left in its folder: answers those who wait for that.
-    pub fn end<R: Clock + Log>(
-        self,
-        rt: &R,
-        alloc: Global,
-        ended: &Result<(), ServerFault>,
-        left: u64,
-    ) {
+    /// The server has ended: those who wait for that are answered with these octets.
+    pub fn end<R: Clock + Log>(self, rt: &R, answer: &[u8]) {
         let Counter { control, .. } = self;
-        let answer = end_answer(alloc, ended, left);
-        // Without memory for the answer there is none.
-        let answer = answer.unwrap_or(Vec::new(alloc));
         if let Some(control) = control {
-            control.end(rt, answer.as_slice());
+            control.end(rt, answer);
         }
     }
 }

@@ -1,13 +1,12 @@
-//! Who looks after a server: what is asked at its control socket and by signals, and its end.
+//! Who looks after a server: the thread that has done what is asked at its control socket, and what signals ask; and the server's end.
 #![tactic(auto)]
 
-mod cancelling;
 mod care;
-mod commanding;
+mod commands;
 mod counter;
-mod owned_job;
 mod stewarding;
 mod stopping;
 
 pub use care::Care;
+pub use commands::{Commands, Reply};
 pub use counter::Counter;

@@ -1,9 +1,13 @@
-//! The thread that does what is asked at the control socket and by signals, and tells again of printers that stand still.
+//! The thread that has done what is asked at the control socket, does what signals ask, and tells again of printers that stand still.
+
+ghost use Rattle.std.specs.Prelude.{◌≡◌, None, Some, min};
+ghost use Rattle.std.specs.Option.{option_map};
+ghost use Rattle.std.specs.Time.{instant_nanos};
+ghost use Rattle.std.specs.declared.time.Instant.{Instant as Moment};
 
 use crate::care::Care;
-use crate::commanding::AnswerLines;
+use crate::commands::{Commands, Reply};
 use crate::counter::Counter;
-use control_lines::{AnswerEnd, CommandFault, ControlCommand};
 use control_socket::{AskedLine, Pending};
 use log::{Log, warn};
 use server_house::{HouseLedger, HouseSeat};
@@ -16,8 +20,10 @@ use std::time::{Duration, Instant};
 
 /// Who does what is asked.
 #[derive(Drop)]
-struct Steward<'h, 'a, R, E: HouseLedger> {
+struct Steward<'h, 'a, R, E: HouseLedger, C> {
     care: &'h Care<'h, 'a, R, E>,
+    /// Who does what is asked at the control socket.
+    commands: C,
     seat: HouseSeat<E>,
     counter: Counter,
     /// When nothing is waited for any more, where that was asked.
@@ -25,14 +31,25 @@ struct Steward<'h, 'a, R, E: HouseLedger> {
 }
 
 /// The earlier one of two moments, each of which there may be.
-fn earlier(first: Option<Instant>, second: Option<Instant>) -> Option<Instant> {
+fn earlier(first: Option<Instant>, second: Option<Instant>) -> Option<Instant>
+    ensures first { second ≡ None → result ≡ first }
+    ensures second { first ≡ None → result ≡ second }
+    ensures both { (a b : Moment) → first ≡ Some a → second ≡ Some b
+        → option_map instant_nanos result ≡ Some (min (instant_nanos a) (instant_nanos b)) }
+{
     match (first, second) {
         (Some(first), Some(second)) => Some(first.min(second)),
         (first, second) => first.or(second),
     }
 }
 
-impl<R: Files<File = File> + Clock + Log + Wait, E: HouseLedger> Steward<'_, '_, R, E> {
+impl<R: Files<File = File> + Clock + Log + Wait, E: HouseLedger, C: Commands<E>> Steward<
+    '_,
+    '_,
+    R,
+    E,
+    C,
+> {
     /// Nobody is let in any more; after N seconds nothing is waited for any more, where there is such a number.
     fn stop(&mut self, seconds: Option<u32>) {
         let hall = self.care.hall;
@@ -109,37 +126,36 @@ impl<R: Files<File = File> + Clock + Log + Wait, E: HouseLedger> Steward<'_, '_,
         }
     }
 
-    /// Does what was asked at the control socket.
+    /// Has done what was asked at the control socket.
     fn answer(&mut self, asked: AskedLine) {
-        let alloc = self.care.hall.alloc;
-        let answer = match ControlCommand::parse(alloc, asked.line.as_slice()) {
-            Ok(ControlCommand::Stop { seconds }) => {
-                self.stop(seconds);
-                return;
-            }
-            Ok(ControlCommand::StopNow) => {
-                self.stop_now();
-                return;
-            }
-            Ok(command) => self.care.carry_out(&mut self.seat, &command),
-            Err(CommandFault::Unknown) => AnswerLines::new(alloc).end(AnswerEnd::Unknown),
-            Err(CommandFault::Memory) => Err(AllocError),
-        };
-        // Without memory for the answer there is none.
-        self.counter
-            .answer(&asked, answer.unwrap_or(Vec::new(alloc)));
+        match self
+            .commands
+            .carry_out(&mut self.seat, asked.line.as_slice())
+        {
+            Ok(Reply::Stop { seconds }) => self.stop(seconds),
+            Ok(Reply::StopNow) => self.stop_now(),
+            Ok(Reply::Answer(octets)) => self.counter.answer(&asked, octets),
+            // Without memory for the answer there is none.
+            Err(AllocError) => self.counter.answer(&asked, Vec::new(self.care.hall.alloc)),
+        }
     }
 }
 
 impl<R: Files<File = File> + Clock + Log + Wait, E: HouseLedger> Care<'_, '_, R, E> {
-    /// Does what is asked, and tells again of printers that stand still, until the spool is closed. Answers the seat, and what still
+    /// Has done what is asked, by whoever is handed in, and tells again of printers that stand still, until the spool is closed. Answers the seat, and what still
     /// waits for the server's end. Where nobody looks after the server or at it, this answers at once.
-    pub fn look_after(&self, seat: HouseSeat<E>, counter: Counter) -> (HouseSeat<E>, Counter) {
+    pub fn look_after<C: Commands<E> + Drop>(
+        &self,
+        seat: HouseSeat<E>,
+        counter: Counter,
+        commands: C,
+    ) -> (HouseSeat<E>, Counter) {
         if !self.hall.is_watched() {
             return (seat, counter);
         }
         let mut steward = Steward {
             care: self,
+            commands,
             seat,
             counter,
             cut_off_at: None,

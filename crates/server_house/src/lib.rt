@@ -18,6 +18,7 @@ mod room;
 mod rotating;
 mod sessions;
 mod showing;
+mod sweeping;
 
 pub use faults::ServerFault;
 pub use hall::Hall;

@@ -1,7 +1,7 @@
 //! How fast a peer sends, where it has to send so much a second.
 
 ghost use Rattle.std.specs.Int.NonZero.{non_zero_u64_get};
-ghost use Rattle.std.specs.Prelude.{◌≡◌, ◌↔◌, ◌<◌, ◌≤◌, ◌+◌, ◌*◌, ◌-◌, ◌^◌, IsTrue, min};
+ghost use Rattle.std.specs.Prelude.{◌≡◌, ◌↔◌, ◌<◌, ◌≤◌, ◌+◌, ◌*◌, ◌/◌, ◌-◌, ◌^◌, IsTrue, min};
 
 use std::num::NonZeroU64;
 
@@ -50,7 +50,8 @@ impl Pace {
 
     /// Whether it is to be judged, and less came than `slowest` octets a second.
     pub(crate) fn is_slow(self, slowest: NonZeroU64) -> bool
-        ensures { IsTrue result → 60_000 ≤ self.waited_ms }
+        ensures { IsTrue result ↔ (60_000 ≤ self.waited_ms)
+            × (self.octets < min (non_zero_u64_get slowest * (self.waited_ms / 1_000)) (2 ^ 64 - 1)) }
     {
         self.is_due() && is_too_slow(self.octets, slowest, self.waited_ms / 1_000)
     }

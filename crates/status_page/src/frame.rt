@@ -62,7 +62,8 @@ fn queue_of<'a>(config: &'a Config, concern: Concern) -> &'a str {
 
 /// How the spool stands, where it doesn't take jobs any more.
 fn state_word(scene: &Scene<'_>) -> &'static str
-    ensures { result.now ≡ spool_word (spool_state scene.now.spool.now.closed scene.now.outside.now.stops) }
+    ensures { result.now
+        ≡ spool_word (spool_state scene.now.spool.now.closed scene.now.outside.now.stops) }
 {
     spool_word(spool_state(scene.spool.closed, scene.outside.stops))
 }

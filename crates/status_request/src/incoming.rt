@@ -37,7 +37,8 @@ impl Incoming {
 
     /// Reads once, as much as comes and there is room for. How many octets came; after an `Err` none did.
     pub fn read_from<R: Read>(&mut self, stream: &mut R) -> io::Result<usize>
-        ensures grows { IfOk result (λ n. (more : List ℕ) × (length more ≡ n) × (self.new ≡ self.old ++ more)) }
+        ensures grows { IfOk result
+            (λ n. (more : List ℕ) × (length more ≡ n) × (self.new ≡ self.old ++ more)) }
         ensures err { OnErr result (self.new ≡ self.old) }
         ensures bounded { length self.new ≤ MOST_OCTETS }
     {

@@ -188,7 +188,8 @@ impl<W: OctetWrite + Drop> TerminalWriter<W> {
 
     /// Writes what a terminal is shown of octets, behind those that are held. Fails where it can't be written, or memory is refused.
     fn show(&mut self, octets: &[u8]) -> Result<(), OctetFault>
-        ensures shown { OnOk result (WritesShown (W.written self.old.writer) (W.written self.new.writer)
+        ensures shown { OnOk result
+            (WritesShown (W.written self.old.writer) (W.written self.new.writer)
             (self.old.held.items ++ octets.now) self.new.held.items) }
         ensures faults { self.new.faults ≡ self.old.faults }
     {

@@ -229,7 +229,8 @@ pub fn check<I: OctetRead, W: OctetWrite>(
     ensures checked { IfOk result (Checked checking.now (I.left config.old) (I.left config.new)
         (W.written output.old) (W.written output.new)) }
     // A printer that isn't there is told before anything is printed.
-    ensures missing { IfErr result (IsUnchecked checking.now (W.written output.old) (W.written output.new)) }
+    ensures missing { IfErr result
+        (IsUnchecked checking.now (W.written output.old) (W.written output.new)) }
     ensures read_fault { I.faults config.new ≢ I.faults config.old → result ≡ Err (Run ReadFile) }
     ensures write_fault { W.faults output.new ≡ write_faults (W.faults output.old) result }
     // A fault of the configuration is told before anything is printed.

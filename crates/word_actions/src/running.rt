@@ -227,7 +227,8 @@ fn check_file<R: Files + Log + Alloc<A = Global>, W: OctetWrite>(
     output: &mut W,
 ) -> Result<ReadSpool, ActionFault>
     ensures write_fault { W.faults output.new ≡ write_faults (W.faults output.old) result }
-    ensures missing { IfErr result (IsUnchecked checking.now (W.written output.old) (W.written output.new)) }
+    ensures missing { IfErr result
+        (IsUnchecked checking.now (W.written output.old) (W.written output.new)) }
 {
     let mut file = StreamReader::open(rt, checking.config);
     let end = check(rt.alloc(), &mut file, checking, output);

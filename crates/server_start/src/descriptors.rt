@@ -1,11 +1,17 @@
 //! How many descriptors are kept for others than connections that wait, and whether as many are there as a server takes at least.
 
-ghost use Rattle.std.specs.Prelude.{◌≡◌, ◌≤◌, Some};
-ghost use Rattle.lpd_daemon.specs.Descriptors.{kept, least_free, too_few_text};
+ghost use Rattle.std.specs.Prelude.{◌≡◌, ◌≤◌, IfErr, Some};
+ghost use Rattle.program_edge.specs.Openings.{IsUnopened};
+ghost use Rattle.program_edge.specs.declared.opening.StartPart.{StartPart};
+ghost use Rattle.program_edge.specs.declared.opening.StartPart.TheVariants.{Listener};
+ghost use Rattle.server_start.specs.Descriptors.{kept, least_free, too_few_text};
 
+use log::{Log, info};
+use program_edge::{CAUSES, StartFault, StartPart, descriptor_limit};
 use std::alloc::Global;
 use std::fmt;
 use std::fs::{File, Files};
+use std::net::SocketAddr;
 
 /// How many descriptors are kept for more than connections that wait.
 const KEPT_DESCRIPTORS: u64 = 64;
@@ -24,24 +30,24 @@ const NO_MORE: i32 = 24;
 
 /// What of a server takes descriptors beside connections that wait.
 #[derive(Clone, Copy)]
-pub(crate) struct Takers {
-    pub(crate) printers: u32,
-    pub(crate) sessions: u32,
+pub struct Takers {
+    pub printers: u32,
+    pub sessions: u32,
     /// It has a folder of jobs.
-    pub(crate) are_kept: bool,
+    pub are_kept: bool,
     /// It has a folder of its account's segments.
-    pub(crate) is_archived: bool,
+    pub is_archived: bool,
     /// It has a control socket, or looks at signals.
-    pub(crate) is_watched: bool,
+    pub is_watched: bool,
     /// Its status is shown.
-    pub(crate) is_shown: bool,
+    pub is_shown: bool,
 }
 
 impl Takers {
     /// How many descriptors are kept for others than connections that wait: for each printer's file, for each session two of its connection,
     /// and some for what the program has beside; where a steward looks after the server, for each printer's pipe and for what comes to the
     /// steward too; where jobs are kept, for each session a file, and some for the folder; and some where the status is shown.
-    pub(crate) fn kept(self) -> u64
+    pub fn kept(self) -> u64
         ensures { result ≡ kept self }
     {
         let (printers, sessions) = (u64::from(self.printers), u64::from(self.sessions));
@@ -61,7 +67,7 @@ impl Takers {
 
     /// How many have to be free once all is open, at least: one for each printer, two for a connection that brings a job, two for that job's
     /// file and its folder, and one each for a segment, a command, and a question for the status.
-    pub(crate) fn least_free(self) -> u64
+    fn least_free(self) -> u64
         ensures { result ≡ least_free self }
     {
         let folder = if self.are_kept { 2 } else { 0 };
@@ -73,7 +79,7 @@ impl Takers {
 }
 
 /// How many of N descriptors aren't free: as many files are opened at once, and closed.
-pub(crate) fn lacking<R: Files<File = File>>(rt: &R, alloc: Global, wanted: u64) -> u64
+fn lacking<R: Files<File = File>>(rt: &R, alloc: Global, wanted: u64) -> u64
     ensures { result ≤ wanted }
 {
     let mut opened = Vec::new(alloc);
@@ -93,9 +99,9 @@ pub(crate) fn lacking<R: Files<File = File>>(rt: &R, alloc: Global, wanted: u64)
 
 /// So many descriptors are too few, since it takes so many at least.
 #[derive(Clone, Copy)]
-pub(crate) struct TooFew {
-    pub(crate) limit: u64,
-    pub(crate) least: u64,
+struct TooFew {
+    limit: u64,
+    least: u64,
 }
 
 impl fmt::Display for TooFew {
@@ -108,4 +114,24 @@ impl fmt::Display for TooFew {
             self.limit, self.least
         )
     }
+}
+
+/// Fails where fewer descriptors are free than these take, now that a server listens at this address: of that the log is told why too.
+pub fn check_descriptors<R: Files<File = File> + Log>(
+    rt: &R,
+    alloc: Global,
+    address: SocketAddr,
+    takers: Takers,
+) -> Result<(), StartFault>
+    ensures { IfErr result (IsUnopened (λ (part : StartPart). part ≡ Listener)) }
+{
+    let lacking = lacking(rt, alloc, takers.least_free());
+    if lacking == 0 {
+        return Ok(());
+    }
+    let limit = descriptor_limit();
+    let least = limit.saturating_add(lacking);
+    let cause = TooFew { limit, least };
+    info!(rt; target: CAUSES, "{address}: {cause}");
+    Err(StartFault::of(alloc, StartPart::Listener, &address, &cause))
 }

@@ -1,14 +1,14 @@
-//! What is asked at the control socket, each command as calls of the spool and the lines of its answer.
+//! Commands for a queue, and for the account.
 
-use crate::cancelling::is_received;
-use crate::care::Care;
-use control_lines::{AnswerEnd, ControlCommand, Escaped};
+use crate::answer_lines::AnswerLines;
+use crate::commander::Commander;
+use crate::jobs::is_received;
+use control_lines::{AnswerEnd, Escaped};
 use decimals::read_decimal;
 use log::Log;
 use server_house::{HouseLedger, HouseSeat, PrintedLine, rotation_of};
 use shared_spool::{Octets, Refusal, SeenJob};
-use std::alloc::{AllocError, Global};
-use std::fmt::Display;
+use std::alloc::AllocError;
 use std::fs::{File, Files};
 use std::io;
 use std::rt::Clock;
@@ -17,55 +17,7 @@ use std::sync::Wait;
 /// Who removes what is removed at the control socket.
 const AGENT: &[u8] = b"root";
 
-/// The lines of an answer.
-#[derive(Drop)]
-pub struct AnswerLines {
-    alloc: Global,
-    text: String,
-}
-
-impl AnswerLines {
-    /// No line.
-    pub fn new(alloc: Global) -> AnswerLines {
-        AnswerLines {
-            alloc,
-            text: String::new(alloc),
-        }
-    }
-
-    /// These lines.
-    pub fn of_lines(alloc: Global, text: String) -> AnswerLines {
-        AnswerLines { alloc, text }
-    }
-
-    /// One line more. An error where memory is refused.
-    pub fn line<D: Display>(&mut self, line: &D) -> Result<(), AllocError> {
-        let line = format!(in self.alloc; "{line}\n")?;
-        self.text.push_str(line.as_str())?;
-        Ok(())
-    }
-
-    /// The octets of the answer, which ends so. An error where memory is refused.
-    pub fn end(self, end: AnswerEnd<'_>) -> Result<Vec<u8>, AllocError> {
-        let mut answer = self;
-        answer.line(&end)?;
-        let AnswerLines { text, .. } = answer;
-        Ok(text.into_bytes())
-    }
-
-    /// The octets of the answer: nothing more where this was done, else why it wasn't. An error where memory is refused.
-    pub fn end_by<W: Display + Drop>(self, refused: Option<W>) -> Result<Vec<u8>, AllocError> {
-        match refused {
-            None => self.end(AnswerEnd::Done),
-            Some(refusal) => {
-                let why = format!(in self.alloc; "{refusal}")?;
-                self.end(AnswerEnd::Refused { text: why.as_str() })
-            }
-        }
-    }
-}
-
-impl<R: Files<File = File> + Clock + Log + Wait, E: HouseLedger> Care<'_, '_, R, E> {
+impl<R: Files<File = File> + Clock + Log + Wait, E: HouseLedger> Commander<'_, '_, R, E> {
     /// The numbers of the printers of a queue that stand still now. An error where memory is refused.
     fn stopped_of(&self, queue: &[u8]) -> Result<Vec<u32>, AllocError> {
         let config = &self.hall.oversight.config;
@@ -83,23 +35,25 @@ impl<R: Files<File = File> + Clock + Log + Wait, E: HouseLedger> Care<'_, '_, R,
     }
 
     /// Starts the stopped printers of a queue, and tells which.
-    fn start_queue(&self, seat: &mut HouseSeat<E>, queue: &[u8]) -> Result<Vec<u8>, AllocError> {
-        let mut answer = AnswerLines::new(self.hall.alloc);
+    pub(crate) fn start_queue(
+        &self,
+        seat: &mut HouseSeat<E>,
+        queue: &[u8],
+    ) -> Result<Vec<u8>, AllocError> {
+        let mut answer = self.no_lines();
         let stopped = self.stopped_of(queue)?;
         let started = match self.spool.start_telling(self.hall.rt, seat, queue) {
             Ok(started) => started,
             Err(refusal) => return answer.end_by(Some(refusal)),
         };
         for printer in stopped.iter() {
-            let line = format!(in answer.alloc; "started {printer}")?;
-            answer.line(&line)?;
+            answer.line(format!(in self.hall.alloc; "started {printer}"));
         }
         if started.stopped == 0 {
-            answer.line(&"started none")?;
+            answer.words("started none");
             if self.is_held(started.queue)? {
                 let name = self.hall.queue_name(started.queue);
-                let line = format!(in answer.alloc; "{name} is held: release {name}")?;
-                answer.line(&line)?;
+                answer.line(format!(in self.hall.alloc; "{name} is held: release {name}"));
             }
         }
         answer.end(AnswerEnd::Done)
@@ -148,28 +102,22 @@ impl<R: Files<File = File> + Clock + Log + Wait, E: HouseLedger> Care<'_, '_, R,
     }
 
     /// Tells that what was asked lasts until the server ends alone, where that is so.
-    fn tell_unkept(
-        &self,
-        answer: &mut AnswerLines,
-        why: Option<io::Error>,
-    ) -> Result<(), AllocError> {
-        let Some(error) = why else {
-            return Ok(());
-        };
-        let line = format!(in self.hall.alloc; "the next server won't know it: {error}")?;
-        answer.line(&line)
+    fn tell_unkept(&self, answer: &mut AnswerLines, why: Option<io::Error>) {
+        if let Some(error) = why {
+            answer.line(format!(in self.hall.alloc; "the next server won't know it: {error}"));
+        }
     }
 
     /// Holds a queue. Tells where it was held before.
-    fn hold_queue(&self, queue: &[u8]) -> Result<Vec<u8>, AllocError> {
-        let mut answer = AnswerLines::new(self.hall.alloc);
+    pub(crate) fn hold_queue(&self, queue: &[u8]) -> Result<Vec<u8>, AllocError> {
+        let mut answer = self.no_lines();
         let was_held = self.is_held_by_name(queue)?;
         match self.set_held(queue, true) {
-            Ok(why) => self.tell_unkept(&mut answer, why)?,
+            Ok(why) => self.tell_unkept(&mut answer, why),
             Err(refusal) => return answer.end_by(Some(refusal)),
         }
         if was_held {
-            answer.line(&"held already")?;
+            answer.words("held already");
         }
         answer.end(AnswerEnd::Done)
     }
@@ -178,24 +126,23 @@ impl<R: Files<File = File> + Clock + Log + Wait, E: HouseLedger> Care<'_, '_, R,
     fn tell_unheld(&self, answer: &mut AnswerLines, queue: &[u8]) -> Result<(), AllocError> {
         let stopped = self.stopped_of(queue)?;
         if stopped.is_empty() {
-            return answer.line(&"nothing held");
+            answer.words("nothing held");
         }
         let queue = Escaped(queue);
         for printer in stopped.iter() {
-            let line = format!(in answer.alloc;
+            answer.line(format!(in self.hall.alloc;
                 "nothing held: printer {printer} is stopped: start {queue}"
-            )?;
-            answer.line(&line)?;
+            ));
         }
         Ok(())
     }
 
     /// Releases a queue. Where it wasn't held that is told, and what would have its jobs printed.
-    fn release_queue(&self, queue: &[u8]) -> Result<Vec<u8>, AllocError> {
-        let mut answer = AnswerLines::new(self.hall.alloc);
+    pub(crate) fn release_queue(&self, queue: &[u8]) -> Result<Vec<u8>, AllocError> {
+        let mut answer = self.no_lines();
         let was_held = self.is_held_by_name(queue)?;
         match self.set_held(queue, false) {
-            Ok(why) => self.tell_unkept(&mut answer, why)?,
+            Ok(why) => self.tell_unkept(&mut answer, why),
             Err(refusal) => return answer.end_by(Some(refusal)),
         }
         if !was_held {
@@ -234,7 +181,7 @@ impl<R: Files<File = File> + Clock + Log + Wait, E: HouseLedger> Care<'_, '_, R,
     }
 
     /// Removes a job or a user's jobs of a queue, and tells which.
-    fn remove_jobs(
+    pub(crate) fn remove_jobs(
         &self,
         seat: &mut HouseSeat<E>,
         queue: &[u8],
@@ -247,10 +194,10 @@ impl<R: Files<File = File> + Clock + Log + Wait, E: HouseLedger> Care<'_, '_, R,
         {
             Ok(removal) => {
                 let parked = self.remove_waiting(removal.queue, &list)?;
-                let mut more = AnswerLines::new(self.hall.alloc);
+                let mut more = self.no_lines();
                 if removal.numbers.is_empty() && parked.is_empty() {
                     if let Some(hint) = self.hint_of(removal.queue, whom)? {
-                        more.line(&hint)?;
+                        more.words(hint.as_str());
                     }
                 }
                 let has_text = !removal.numbers.is_empty() || parked.is_empty();
@@ -265,13 +212,13 @@ impl<R: Files<File = File> + Clock + Log + Wait, E: HouseLedger> Care<'_, '_, R,
                 octets.extend_from_slice(end.as_slice())?;
                 Ok(octets)
             }
-            Err(refusal) => AnswerLines::new(self.hall.alloc).end_by(Some(refusal)),
+            Err(refusal) => self.no_lines().end_by(Some(refusal)),
         }
     }
 
     /// Rotates the account. The porter prints that.
-    fn rotate_account(&self, seat: &mut HouseSeat<E>) -> Result<Vec<u8>, AllocError> {
-        let mut answer = AnswerLines::new(self.hall.alloc);
+    pub(crate) fn rotate_account(&self, seat: &mut HouseSeat<E>) -> Result<Vec<u8>, AllocError> {
+        let mut answer = self.no_lines();
         if !self.hall.takes_place() {
             return answer.end_by(Some("segments of the account wait to be written"));
         }
@@ -281,45 +228,14 @@ impl<R: Files<File = File> + Clock + Log + Wait, E: HouseLedger> Care<'_, '_, R,
                 self.hall.note_rotated(Ok(segment));
                 let _ = self.hall.waker.wake();
                 let (number, entries) = (rotation.number, rotation.entries);
-                answer.line(&PrintedLine::Rotated { number, entries })?;
+                let line = PrintedLine::Rotated { number, entries };
+                answer.line(format!(in self.hall.alloc; "{line}"));
                 answer.end(AnswerEnd::Done)
             }
             Err(refusal) => {
                 self.hall.give_place_back();
                 answer.end_by(Some(refusal))
             }
-        }
-    }
-
-    /// Tells how the spool, its sessions, its printers and its jobs stand.
-    fn tell_status(&self) -> Result<Vec<u8>, AllocError> {
-        let lines = self.surveyor().status()?;
-        AnswerLines::of_lines(self.hall.alloc, lines).end(AnswerEnd::Done)
-    }
-
-    /// Does what a command asks for, but for a stop. The octets of its answer; an error where memory is refused.
-    pub fn carry_out(
-        &self,
-        seat: &mut HouseSeat<E>,
-        command: &ControlCommand,
-    ) -> Result<Vec<u8>, AllocError> {
-        match command {
-            ControlCommand::Status => self.tell_status(),
-            ControlCommand::Start { queue } => self.start_queue(seat, queue.as_slice()),
-            ControlCommand::Hold { queue } => self.hold_queue(queue.as_slice()),
-            ControlCommand::Release { queue } => self.release_queue(queue.as_slice()),
-            ControlCommand::Remove { queue, whom } => {
-                self.remove_jobs(seat, queue.as_slice(), whom.as_slice())
-            }
-            ControlCommand::CancelJob { number } => self.cancel_job(seat, *number),
-            ControlCommand::CancelFile { number } => self.cancel_file(seat, *number),
-            ControlCommand::Resend { number } => self.resend_job(*number),
-            ControlCommand::ResendAll => self.resend_all(None),
-            ControlCommand::ResendQueue { queue } => self.resend_all(Some(queue.as_slice())),
-            ControlCommand::Rotate => self.rotate_account(seat),
-            ControlCommand::Stop { .. } | ControlCommand::StopNow => AnswerLines::new(
-                self.hall.alloc,
-            ).end(AnswerEnd::Done),
         }
     }
 }

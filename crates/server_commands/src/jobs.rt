@@ -1,7 +1,7 @@
 //! Commands for one job: it is removed, by its number of acceptance or by that of its file, or fed again.
 
-use crate::care::Care;
-use crate::commanding::AnswerLines;
+use crate::answer_lines::AnswerLines;
+use crate::commander::Commander;
 use crate::owned_job::OwnedJob;
 use control_lines::AnswerEnd;
 use log::Log;
@@ -42,7 +42,7 @@ pub(crate) fn is_received(job: &SeenJob) -> bool {
     matches!(stage_of(job), JobStage::Waiting | JobStage::Printing)
 }
 
-impl<R: Files<File = File> + Clock + Log + Wait, E: HouseLedger> Care<'_, '_, R, E> {
+impl<R: Files<File = File> + Clock + Log + Wait, E: HouseLedger> Commander<'_, '_, R, E> {
     /// The name of a held job.
     pub(crate) fn name_of<'j>(&'j self, job: &'j SeenJob) -> OwnedJob<'j> {
         OwnedJob {
@@ -58,15 +58,14 @@ impl<R: Files<File = File> + Clock + Log + Wait, E: HouseLedger> Care<'_, '_, R,
 
     /// The answer that tells that this was done to a job.
     fn tell_done(&self, what: &str, job: &OwnedJob<'_>) -> Result<Vec<u8>, AllocError> {
-        let mut answer = AnswerLines::new(self.hall.alloc);
-        let line = format!(in self.hall.alloc; "{what} {job}")?;
-        answer.line(&line)?;
+        let mut answer = self.no_lines();
+        answer.line(format!(in self.hall.alloc; "{what} {job}"));
         answer.end(AnswerEnd::Done)
     }
 
     /// The answer that it wasn't, for this reason.
     fn refuse<W: Display + Drop>(&self, why: W) -> Result<Vec<u8>, AllocError> {
-        AnswerLines::new(self.hall.alloc).end_by(Some(why))
+        self.no_lines().end_by(Some(why))
     }
 
     /// Removes a received job, which is told by this name.
@@ -224,19 +223,18 @@ impl<R: Files<File = File> + Clock + Log + Wait, E: HouseLedger> Care<'_, '_, R,
             Ok(numbers) => numbers,
             Err(fault) => return self.refuse(fault),
         };
-        let mut answer = AnswerLines::new(self.hall.alloc);
+        let mut answer = self.no_lines();
         let mut sent = 0usize;
         for number in numbers {
             if self.is_meant(kept, number, queue) {
                 sent = sent.saturating_add(1);
-                self.tell_resent(&mut answer, kept, number, sent <= MOST_TOLD)?;
+                self.tell_resent(&mut answer, kept, number, sent <= MOST_TOLD);
             }
         }
         if sent == 0 {
-            answer.line(&"resent none")?;
+            answer.words("resent none");
         } else if sent > MOST_TOLD {
-            let line = format!(in self.hall.alloc; ".. and {} more", sent - MOST_TOLD)?;
-            answer.line(&line)?;
+            answer.line(format!(in self.hall.alloc; ".. and {} more", sent - MOST_TOLD));
         }
         answer.end(AnswerEnd::Done)
     }
@@ -248,19 +246,17 @@ impl<R: Files<File = File> + Clock + Log + Wait, E: HouseLedger> Care<'_, '_, R,
         kept: &JobFolder<'_, R>,
         number: u64,
         is_told: bool,
-    ) -> Result<(), AllocError> {
+    ) {
         match self.resend_one(kept, number) {
             Ok(filed) if is_told => {
                 let name = filed_name(number, &filed);
-                let line = format!(in self.hall.alloc; "resent {name}")?;
-                answer.line(&line)
+                answer.line(format!(in self.hall.alloc; "resent {name}"));
             }
-            Ok(_) => Ok(()),
-            Err(Unsent::Memory) => Err(AllocError),
-            Err(why) => {
-                let line = format!(in self.hall.alloc; "file {number} isn't resent: {why}")?;
-                answer.line(&line)
-            }
+            Ok(_) => {}
+            Err(Unsent::Memory) => answer.line(Err(AllocError)),
+            Err(why) => answer.line(format!(in self.hall.alloc;
+                "file {number} isn't resent: {why}"
+            )),
         }
     }
 }

@@ -82,7 +82,7 @@ fn warn_of_unplaced<R: Log>(rt: &R, settings: &Settings<'_>, config: &Config) {
 }
 
 /// Warns of what a server of these settings and this configuration will want sooner or later.
-pub(crate) fn warn_of<R: Log>(rt: &R, settings: &Settings<'_>, config: &Config) {
+pub fn warn_of<R: Log>(rt: &R, settings: &Settings<'_>, config: &Config) {
     if settings.connections.is_some() {
         return;
     }

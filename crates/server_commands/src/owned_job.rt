@@ -1,7 +1,7 @@
 //! How an answer at the control socket names a job.
 
 ghost use Rattle.std.specs.Prelude.{Some};
-ghost use Rattle.server_care.specs.OwnedJobs.{owned_words};
+ghost use Rattle.server_commands.specs.OwnedJobs.{owned_words};
 
 use control_lines::Escaped;
 use standings::JobName;

@@ -1,8 +1,8 @@
 -- How many descriptors a server takes.
 use Rattle.std.specs.Prelude.{ℕ, ◌+◌, ◌*◌, ◌++◌, Bool, List, codes, if◌then◌else◌}
 use Rattle.std.specs.Fmt.{decimal}
-use Rattle.lpd_daemon.specs.declared.descriptors.Takers.{Takers}
-use Rattle.lpd_daemon.specs.declared.descriptors.TooFew.{TooFew}
+use Rattle.server_start.specs.declared.descriptors.Takers.{Takers}
+use Rattle.server_start.specs.declared.descriptors.TooFew.{TooFew}
 
 -- so many where that is there
 abbrev pub if_there : Bool → ℕ → ℕ

@@ -1,0 +1,10 @@
+//! What is asked at a server's control socket, each command as calls of its spool and the lines of its answer.
+#![tactic(auto)]
+
+mod answer_lines;
+mod commander;
+mod jobs;
+mod owned_job;
+mod queues;
+
+pub use commander::{Commander, end_answer};
