@@ -128,6 +128,13 @@ def files_of_jobs():
         desk.await_files(2)
         desk.refuses("cancel file 1", "No such file")
         desk.refuses("cancel file 99", "No such file")
+        # After one more start the jobs are accepted as 1 and 2, and their files have the numbers 2 and 3 as before.
+        desk.kill()
+        desk.start()
+        desk.await_status("job 2 (003)")
+        desk.says("cancel file 2", "removed file 2 (002) ann@h1 of lp\n")
+        desk.await_files(1)
+        check(desk.files("job") == ["3.job"], desk.files("job"))
         return "from the spool and from the folder"
 
 

@@ -1,7 +1,8 @@
 //! The thread that gives back the pages of jobs whose peers are gone, has jobs leave the spool that can't be printed now, and starts queues
 //! again.
 
-ghost use Rattle.std.specs.Prelude.{◌≡◌, ◌⊎◌, ◌+◌, ◌-◌, ◌^◌, false, min, true};
+ghost use Rattle.std.specs.Int.NonZero.{non_zero_u64_get};
+ghost use Rattle.std.specs.Prelude.{◌≡◌, ◌↔◌, ◌⊎◌, ◌+◌, ◌-◌, ◌^◌, ◌≤◌, IsTrue, MatchOption, false, min, true};
 
 use crate::unloading::Unloading;
 use log::{Log, warn};
@@ -9,6 +10,7 @@ use server_house::{House, HouseLedger, HouseSeat};
 use shared_spool::{AbortError, Waiting};
 use std::alloc::AllocError;
 use std::fs::{File, Files};
+use std::num::NonZeroU64;
 use std::rt::Clock;
 use std::sync::Wait;
 use std::thread;
@@ -49,6 +51,14 @@ fn still_seconds(is_same: bool, seconds: u64) -> u64
     } else {
         0
     }
+}
+
+/// Whether nothing has happened for as long as a peer may be silent, where that is bounded.
+fn is_too_long(silence: Option<NonZeroU64>, seconds: u64) -> bool
+    ensures { MatchOption silence (result ≡ false)
+        (λ silence. IsTrue result ↔ (non_zero_u64_get silence ≤ seconds)) }
+{
+    silence.is_some_and(|silence| silence.get() <= seconds)
 }
 
 /// For how many seconds nothing has happened.
@@ -130,11 +140,7 @@ impl<R: Clock + Log + Wait, E: HouseLedger> Watcher<'_, '_, R, E> {
             self.judge(*waiting, buffer);
         }
         self.still.see(sample);
-        if hall
-            .limits
-            .silence
-            .is_some_and(|silence| silence.get() <= self.still.seconds)
-        {
+        if is_too_long(hall.limits.silence, self.still.seconds) {
             let why = "nothing has happened for as long as a peer may be silent";
             for at in 0..self.still.last.waiting.len() {
                 // Whoever went on since is no longer silent.

@@ -1,5 +1,7 @@
 //! The thread that writes the account's segments into files, and who waits for it.
 
+ghost use Rattle.std.specs.Prelude.{◌≡◌, false, true};
+
 use crate::hall::Hall;
 use log::Log;
 use server_folders::LAST_TRIES;
@@ -7,6 +9,14 @@ use shared_spool::Segment;
 use std::fs::{File, Files};
 use std::rt::Clock;
 use std::sync::Wait;
+
+/// How often each of the last segments is tried, by whether nothing is waited for any more.
+fn tries_of(cuts_off: bool) -> u32
+    ensures cut_off { cuts_off ≡ true → result ≡ 1 }
+    ensures other { cuts_off ≡ false → result ≡ 3 }
+{
+    if cuts_off { 1 } else { LAST_TRIES }
+}
 
 impl<R: Clock + Log + Wait> Hall<'_, R> {
     /// Whether the account may be rotated: where its segments become files a place is taken then for one that waits.
@@ -50,12 +60,7 @@ impl<R: Clock + Log + Wait> Hall<'_, R> {
     /// The archivist ends: nobody rotates the account any more.
     pub fn end_archiving(&self) {
         if let Some(archive) = &self.archive {
-            let tries = if self.ending.cuts_off() {
-                1
-            } else {
-                LAST_TRIES
-            };
-            archive.finish(self.rt, tries);
+            archive.finish(self.rt, tries_of(self.ending.cuts_off()));
         }
     }
 }

@@ -1,10 +1,12 @@
 //! How all of a server stands at one moment.
 
-ghost use Rattle.std.specs.Prelude.{◌≡◌};
+ghost use Rattle.std.specs.Prelude.{◌≡◌, ◌↔◌, ◌≤◌, ◌⊎◌, IsTrue, true};
+ghost use Rattle.server_notes.specs.Standing.{shown_after};
 
 use crate::surveyor::Surveyor;
 use log::Log;
 use server_house::HouseLedger;
+use server_notes::Delay;
 use shared_spool::Sight;
 use standings::{EdgeNotes, FinishingTurn, JobNumbers, PrinterNotes, SeenTrouble, turns_of};
 use status_lines::{KeptJobs, Outside, SeenSession, status_text};
@@ -13,6 +15,14 @@ use std::fs::{File, Files};
 use std::rt::Clock;
 use std::sync::Wait;
 use std::time::Instant;
+
+/// Whether it is told that nothing of the page at a printer has gone for N seconds: where it is long enough, or its job was put back.
+fn is_told(delay: &Delay, seconds: u64, is_put_off: bool) -> bool
+    ensures { IsTrue result
+        ↔ ((is_put_off ≡ true) ⊎ (shown_after delay.now.cause ≤ seconds)) }
+{
+    is_put_off || delay.is_shown(seconds)
+}
 
 /// What the edge of a server knows at one moment.
 #[derive(Drop)]
@@ -117,7 +127,7 @@ impl<R: Files<File = File> + Clock + Log + Wait, E: HouseLedger> Surveyor<'_, '_
         };
         let seconds = now.saturating_duration_since(delay.since).as_secs();
         let is_put_off = self.hall.put_offs.is_waiting(self.hall.rt, printer);
-        if !is_put_off && !delay.is_shown(seconds) {
+        if !is_told(&delay, seconds, is_put_off) {
             return Ok(None);
         }
         let cause = format!(in self.hall.alloc; "{}", delay.cause)?;
