@@ -304,12 +304,15 @@ def a_job_is_removed():
             while peer.recv(65536):
                 pass
         room.await_files(2)
+        # What has ended is called so for a moment, until it is removed.
+        room.await_files(0, "tmp")
         check(not room.files("failed") and len(room.files("*")) == 2, f"it stays: {room.files('*')}")
         room.kill()
         os.remove(f"{room.folder}/printer-1")
         room.start()
         room.await_files(0)
         check(room.printed() == b"1" * 70_000 + b"2" * 70_000, "other octets")
+        room.await_files(0, "tmp")
         check(not room.files("*"), f"files stay: {room.files('*')}")
         return "the other two were printed"
 

@@ -32,12 +32,12 @@ class Watched(Room):
     """A room whose server is watched for a while."""
 
     def watching(self, *refused):
-        words = [it for call in refused for it in ("-e", f"inject={call}:error=EIO")]
+        words = [it for call in refused for it in ("-e", f"inject={call}" if ":" in call else f"inject={call}:error=EIO")]
         return ["strace", "-ff", "-qq", "-y", "-o", f"{self.folder}/trace", "-e", f"trace={','.join(CALLS)}", *words]
 
     @contextlib.contextmanager
     def watch(self, *refused):
-        """Has each thread's calls noted in a file of its own; those that are named fail with EIO."""
+        """Has each thread's calls noted in a file of its own; those that are named fail with EIO, or what is said behind their name befalls them."""
         line = [*self.watching(*refused), "-p", str(self.server.pid)]
         watcher = subprocess.Popen(line, stdin=subprocess.DEVNULL, stderr=subprocess.DEVNULL)
         for _ in range(200):
@@ -143,6 +143,29 @@ def what_is_printed_is_synced_before_the_job_goes():
         return ", ".join(seen)
 
 
+def a_printer_waits_for_no_removal():
+    """Jobs are printed while it takes 0.2 s to remove the file of one. Of those that wait to be removed a kill leaves none that is printed again, and the next start
+    removes them."""
+    with Watched() as room:
+        room.start()
+        jobs = [b"job %02d;" % number for number in range(20)]
+        with room.watch("unlink:delay_enter=200000"):
+            begun = time.monotonic()
+            for number, octets in enumerate(jobs, 1):
+                check(send(room.port, number, octets) == 0, f"job {number}")
+            while room.printed() != b"".join(jobs) or room.files("job"):
+                check(time.monotonic() < begun + 30, room.printed())
+                time.sleep(0.02)
+            took, left = time.monotonic() - begun, len(room.files("tmp"))
+            room.kill()
+        check(took < 2.5 and left > 4, f"{took:.2f} s, {left} left")
+        room.start()
+        room.await_files(0, "tmp")
+        time.sleep(0.5)
+        check(room.printed() == b"".join(jobs), "printed again")
+        return f"20 printed in {took:.2f} s, with {left} to be removed then"
+
+
 def a_job_that_is_sent_again_is_synced():
     """The name of a failed job that is sent again is on the disk before the command is answered."""
     with Watched() as room:
@@ -213,5 +236,5 @@ if __name__ == "__main__":
     if not shutil.which("strace"):
         raise SystemExit("strace isn't there")
     sys.exit(main([a_job_is_synced_before_it_is_acknowledged, a_start_syncs_the_folder, a_new_folder_s_own_name_is_synced,
-                   what_is_printed_is_synced_before_the_job_goes, a_job_that_is_sent_again_is_synced, a_file_s_sync_fails,
+                   what_is_printed_is_synced_before_the_job_goes, a_printer_waits_for_no_removal, a_job_that_is_sent_again_is_synced, a_file_s_sync_fails,
                    the_folder_s_sync_fails, a_segment_is_synced, a_segment_s_sync_fails], __doc__))
