@@ -144,7 +144,10 @@ def written_and_audited():
         status, told, why = room.audit("--ends", "0" * 64)
         check(status == 6 and why.startswith("fault 82 Follow"), f"{status} {told}{why}")
         first = digests(open(room.segments()[0]).read().splitlines()[-1])[-1]
-        check(room.audit("--after", first, files=room.segments()[1:])[0] == 0, "what comes behind the first isn't taken")
+        status, told, why = room.audit("--after", first, files=room.segments()[1:])
+        check(status == 0 and "begins at" not in told, f"what comes behind the first isn't taken: {status} {told}{why}")
+        status, told, why = room.audit(files=room.segments()[1:])
+        check(told.startswith("begins at segment 2: what came before isn't here\n") and told.count("begins at") == 1, f"{status} {told}{why}")
         check(room.audit("--after", first)[0] == 6, "the first is taken behind itself")
         mode = [oct(os.stat(path).st_mode & 0o777) for path in (room.account, room.segments()[0])]
         check(mode == ["0o700", "0o600"], mode)

@@ -222,6 +222,33 @@ def clients_that_end_their_sending():
         return f"a stop after {took:.2f} s"
 
 
+def commands_that_wait():
+    """Of 100 clients who ask for a stop and wait for it 64 are taken in, and the others wait outside: they take no descriptor of the server. Each is answered at its end."""
+    with Room() as room:
+        os.mkfifo(f"{room.folder}/printer-1")
+        room.start()
+        check(send(room.port, 1, b"x" * 200_000) == 0, "a job is taken")
+        time.sleep(0.5)
+        count = lambda: len(os.listdir(f"/proc/{room.server.pid}/fd"))
+        before = count()
+        peers = [socket.socket(socket.AF_UNIX) for _ in range(100)]
+        for peer in peers:
+            peer.settimeout(20)
+            peer.connect(f"{room.folder}/control")
+            peer.sendall(b"stop\n")
+        time.sleep(1.5)
+        taken = count() - before
+        check(50 <= taken <= 66, f"{taken} are taken in")
+        with open(f"{room.folder}/printer-1", "rb") as pipe:
+            while pipe.read(65536):
+                pass
+        told = [peer.recv(100) for peer in peers[:64]]
+        check(all(it == b"end done\n" for it in told), told)
+        for peer in peers:
+            peer.close()
+        return f"{taken} were taken in"
+
+
 def descriptors_that_come_again():
     """Clients that come while a server has no descriptor left are told by a line, and served once it has some again, though nobody else comes: at its port, its control socket, and
     where its status is shown."""
@@ -378,7 +405,7 @@ def many_syncs_wake_each():
         return f"{took:.1f} s"
 
 
-SCENES = (signals_that_stop, the_earlier_stop_holds, rotations_that_are_refused, rotations_after_connections_that_are_refused, a_rotation_is_printed_at_once, segments_that_wait, who_asked_and_went_gives_place, clients_that_end_their_sending, descriptors_that_come_again,
+SCENES = (signals_that_stop, the_earlier_stop_holds, rotations_that_are_refused, rotations_after_connections_that_are_refused, a_rotation_is_printed_at_once, segments_that_wait, who_asked_and_went_gives_place, clients_that_end_their_sending, commands_that_wait, descriptors_that_come_again,
           no_octet_behind_a_stop_now, pauses_begin_anew_behind_a_page, many_syncs_wake_each)
 
 if __name__ == "__main__":

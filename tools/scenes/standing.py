@@ -312,6 +312,29 @@ def a_removed_job_that_ends():
         return "printing, ending and waiting for a printer, told at each; and over once the pipe was read"
 
 
+def sessions_stand_oldest_first():
+    """Sessions are told in the order in which they came, whichever seats they have: the first of three goes, and a fourth one gets its seat."""
+    with served(spool()) as it:
+        peers = []
+        for _ in range(3):
+            peers.append(connect(it.port))
+            peers[-1].sendall(b"\x02lp\n")
+            check(peers[-1].recv(1) == b"\0", "it isn't served")
+        peers.pop(0).close()
+        seen = lambda: re.findall(r"^session 127\.0\.0\.1:(\d+) ", ask(it, "status"), re.M)
+        until(10, "two are left", lambda: len(seen()) == 2)
+        peers.append(connect(it.port))
+        peers[-1].sendall(b"\x02lp\n")
+        check(peers[-1].recv(1) == b"\0", "it isn't served")
+        ports = [str(peer.getsockname()[1]) for peer in peers]
+        check(seen() == ports, f"{seen()} and not {ports}")
+        text = page(it)
+        check(text.index(ports[0]) < text.index(ports[1]) < text.index(ports[2]), "the page has another order")
+        for peer in peers:
+            peer.close()
+    return "three, in their order"
+
+
 def a_printer_that_keeps_its_connection():
     """A printer on the network has taken a whole job, and doesn't end the connection: the job is held no more, nothing is said of the printer, and the next
     job waits for it. Once that isn't waited for any more, the log has the job's end and the doubt."""
@@ -385,6 +408,7 @@ SCENES = [
     a_removed_job_that_ends,
     jobs_that_are_refused,
     kept_jobs_are_called_by_their_files,
+    sessions_stand_oldest_first,
     a_printer_that_keeps_its_connection,
     a_printer_that_takes_nothing,
 ]

@@ -138,6 +138,8 @@ def what_is_printed_is_synced_before_the_job_goes():
             calls = room.calls('.job", ', PRINTING)
             check(calls == wanted, f"{queue}: {calls}")
             seen += calls
+            hidden = [name for name in os.listdir(jobs) if name.startswith(".")]
+            check(not hidden, f"hidden files stay: {hidden}")
             for path in glob.glob(f"{room.folder}/trace.*"):
                 os.remove(path)
         return ", ".join(seen)
