@@ -287,7 +287,7 @@ fn work_in<
     house: House<'s, '_, R, E>,
     scope: &Scope<'s, N>,
     roles: Roles<E>,
-    entrance: Entrance,
+    entrance: Box<Entrance>,
     output: &mut W,
 ) -> (Result<(), ServerFault>, Returned<E>)
 where
@@ -309,7 +309,7 @@ where
         counter,
         board,
         ..
-    } = entrance;
+    } = Box::into_inner(entrance);
     let hall = house.hall;
     let mut crew = Crew::new(hall.alloc);
     crew.start_printers(scope, house, printers, places);
@@ -333,7 +333,7 @@ where
 pub(crate) fn work<R: Host, E: HouseLedger + Send + Sync, W: OctetWrite>(
     house: House<'_, '_, R, E>,
     roles: Roles<E>,
-    entrance: Entrance,
+    entrance: Box<Entrance>,
     output: &mut W,
 ) -> (Result<(), ServerFault>, Returned<E>)
 where

@@ -10,7 +10,7 @@ use server_care::Counter;
 use server_clients::{Gate, listen};
 use server_house::{Hall, Host, Oversight, Showing, sessions_of};
 use server_start::{Takers, check_descriptors, keep_room, open_stores};
-use std::alloc::Global;
+use std::alloc::{AllocError, Global};
 use std::fs::File;
 use std::net::SocketAddr;
 
@@ -19,6 +19,11 @@ fn show_at<R>(hall: &mut Hall<'_, R>, board: Option<(Board, Waker)>) -> Option<B
     let (board, waker) = board?;
     hall.showing = Some(Showing::new(waker));
     Some(board)
+}
+
+/// A value in a box. A large one costs those who hold it less so: letting it go is one call. Memory where that is refused.
+fn boxed<T: Drop>(alloc: Global, value: T) -> Result<Box<T>, AllocError> {
+    Box::new(alloc, value).map_err(AllocError::from)
 }
 
 /// Who looks after a server has these pipes of its printers, and is woken so.
@@ -37,7 +42,7 @@ pub(crate) fn prepare<'a, R: Host>(
     settings: Settings<'a>,
     config: &Config,
     counter: Counter,
-) -> Result<(Hall<'a, R>, Entrance), StartFault> {
+) -> Result<(Box<Hall<'a, R>>, Box<Entrance>), StartFault> {
     let (mut settings, mut counter) = (settings, counter);
     let (has_steward, sessions) = (counter.is_open(), sessions_of(&settings));
     let stores = open_stores(rt, alloc, &settings, config)?;
@@ -55,14 +60,15 @@ pub(crate) fn prepare<'a, R: Host>(
     let (lobby, waker, port) = listen(rt, alloc, &mut settings, takers.kept())?;
     let address = SocketAddr::from((settings.bind, port));
     check_descriptors(rt, alloc, address, takers)?;
-    let (mut hall, doors) = Hall::new(rt, alloc, &settings, config, waker)?;
-    let places = stores.put_into(&mut hall);
-    let board = show_at(&mut hall, board);
+    let (hall, doors) = Hall::new(rt, alloc, &settings, config, waker)?;
+    let mut hall = boxed(alloc, hall)?;
+    let places = Box::into_inner(stores).put_into(&mut *hall);
+    let board = show_at(&mut *hall, board);
     if has_steward || board.is_some() {
         hall.oversight.watch(rt);
     }
     oversee(&mut hall.oversight, pipes, counter.take_waker());
-    let room = keep_room(&mut hall, &settings, config);
+    let room = keep_room(&mut *hall, &settings, config);
     let gate = Gate {
         lobby,
         doors,
@@ -76,5 +82,5 @@ pub(crate) fn prepare<'a, R: Host>(
         counter,
         board,
     };
-    Ok((hall, entrance))
+    Ok((hall, boxed(alloc, entrance)?))
 }

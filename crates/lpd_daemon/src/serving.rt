@@ -162,8 +162,8 @@ where
 ///
 /// Output where a line can't be written; Memory where memory or a thread is refused.
 fn run<R: Host, E: HouseLedger + Send + Sync, W: OctetWrite>(
-    hall: Hall<'_, R>,
-    entrance: Entrance,
+    hall: Box<Hall<'_, R>>,
+    entrance: Box<Entrance>,
     stock: Stock,
     output: &mut W,
 ) -> Result<(), ServerFault>
@@ -185,10 +185,10 @@ where
 ///
 /// Output where a line can't be written; Memory where memory or a thread is refused.
 fn run_house<R: Host, E: HouseLedger + Send + Sync, W: OctetWrite>(
-    hall: Hall<'_, R>,
+    hall: Box<Hall<'_, R>>,
     spool: HouseSpool<E>,
     roles: Roles<E>,
-    entrance: Entrance,
+    entrance: Box<Entrance>,
     output: &mut W,
 ) -> Result<(), ServerFault>
 where
@@ -204,12 +204,12 @@ where
     print_or_tell(hall.rt, hall.alloc, output, line)?;
     let house = House {
         spool: &spool,
-        hall: &hall,
+        hall: &*hall,
     };
     house.hold_again();
     let (told, returned) = work(house, roles, entrance, output);
     let Returned { seats, counter } = returned;
-    let ended = finish(&hall, spool, seats, told, output);
+    let ended = finish(&*hall, spool, seats, told, output);
     if let Some(counter) = counter {
         let left = hall.kept.as_ref().map_or(0, |kept| kept.left(hall.rt));
         // Without memory for the answer there is none.

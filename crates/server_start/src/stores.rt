@@ -11,7 +11,7 @@ use printer_devices::{OpenedPlace, open_places};
 use program_edge::{Settings, StartFault};
 use server_folders::{Archive, JobFolder, open_archive};
 use server_house::{AccountRoom, Hall, Host, sessions_of};
-use std::alloc::Global;
+use std::alloc::{AllocError, Global};
 use std::fs::{File, Files};
 use std::sync::Wait;
 
@@ -57,15 +57,17 @@ pub fn open_stores<'a, R: Host>(
     alloc: Global,
     settings: &Settings<'a>,
     config: &Config,
-) -> Result<Stores<'a, R>, StartFault> {
+) -> Result<Box<Stores<'a, R>>, StartFault> {
     let places = open_places(rt, alloc, settings, config.printer_count())?;
     let kept = open_kept(rt, alloc, settings, config)?;
     let archive = open_archive(rt, alloc, settings, config, places.as_slice())?;
-    Ok(Stores {
+    let stores = Stores {
         places,
         kept,
         archive,
-    })
+    };
+    let boxed = Box::new(alloc, stores).map_err(AllocError::from)?;
+    Ok(boxed)
 }
 
 impl<'a, R> Stores<'a, R> {
