@@ -128,6 +128,7 @@ impl<R: Files<File = File> + Clock + Log + Wait, E: HouseLedger, C: Commands<E>>
 
     /// Has done what was asked at the control socket.
     fn answer(&mut self, asked: AskedLine) {
+        let alloc = self.care.hall.alloc;
         match self
             .commands
             .carry_out(&mut self.seat, asked.line.as_slice())
@@ -136,7 +137,7 @@ impl<R: Files<File = File> + Clock + Log + Wait, E: HouseLedger, C: Commands<E>>
             Ok(Reply::StopNow) => self.stop_now(),
             Ok(Reply::Answer(octets)) => self.counter.answer(&asked, octets),
             // Without memory for the answer there is none.
-            Err(AllocError) => self.counter.answer(&asked, Vec::new(self.care.hall.alloc)),
+            Err(AllocError) => self.counter.answer(&asked, Vec::new(alloc)),
         }
     }
 }
