@@ -13,7 +13,7 @@ _lpd_server() {
         --log) compadd time journal; return ;;
         --by) compadd user host queue; return ;;
         --printer) compadd -S '' lp=file: lp=folder: lp=socket://; return ;;
-        --port|--bind|--server|--allow|--proxied|--status|--status-host|--sessions|--connections|--rotate|--silence|--per-host|--slowest|--patience|--printer-silence|--restart|--since|--until|--after|--ends)
+        --port|--bind|--server|--allow|--proxied|--status|--status-host|--sessions|--connections|--rotate|--silence|--per-host|--slowest|--patience|--printer-silence|--restart|--since|--until|--after|--ends|--taken)
             return ;;
         --out|--spool|--account|--control|--printed) _files; return ;;
     esac
