@@ -331,9 +331,9 @@ def folders():
         # all files are taken away: the next run begins with 1 again, and an audit that is told so goes by its files
         for name in names():
             os.remove(f"{jobs}/{name}")
-        run(b"eight")
-        check(names() == ["job-0000000001"], names())
-        told("taken and begun again", 0, "not judged 1: job 1, which no file has\n(.*\n)*printed 1 octets 5\n", "$", "--taken", "1")
+        run(b"eight", b"nine!")
+        check(names() == ["job-0000000001", "job-0000000002"], names())
+        told("taken and begun again", 0, "not judged 1: job 1, which no file has\nnot judged 1: job 2, which no file has\n(.*\n)*printed 1 octets 10\n", "$", "--taken", "1")
         told("nobody said so", 6, "", "fault 83 ")
         # a second printer of the folder, by another path
         os.symlink(jobs, f"{room.folder}/link")

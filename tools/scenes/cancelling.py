@@ -128,14 +128,26 @@ def files_of_jobs():
         desk.await_files(2)
         desk.refuses("cancel file 1", "No such file")
         desk.refuses("cancel file 99", "No such file")
-        # After one more start the jobs are accepted as 1 and 2, and their files have the numbers 2 and 3 as before.
+        return "from the spool and from the folder"
+
+
+def files_whose_jobs_have_other_numbers():
+    """Behind a start a job has another number of acceptance than its file has: what is cancelled by its file's number is that job, and none of the other's number."""
+    with Desk(keeps=True) as desk:
+        desk.start()
+        desk.send(1)
+        desk.await_files(0)
+        desk.send(2, LONG)
+        desk.send(3)
         desk.kill()
         desk.start()
-        desk.await_status("job 2 (003)")
-        desk.says("cancel file 2", "removed file 2 (002) ann@h1 of lp\n")
+        desk.await_status("job 2 lp")
+        check(desk.files("job") == ["2.job", "3.job"], desk.files("job"))
+        desk.says("cancel file 3", "removed file 3 (003) ann@h1 of lp\n")
         desk.await_files(1)
-        check(desk.files("job") == ["3.job"], desk.files("job"))
-        return "from the spool and from the folder"
+        desk.says("cancel file 2", "removed file 2 (002) ann@h1 of lp\n")
+        desk.await_files(0)
+        return "both"
 
 
 def removed_by_its_number():
@@ -211,7 +223,7 @@ def all_failed_files():
         return "all of a queue, and all"
 
 
-SCENES = [jobs_of_two_hosts, an_arriving_job, what_would_help, files_of_jobs, removed_by_its_number, a_failed_file, all_failed_files, a_job_that_waits_for_pages]
+SCENES = [jobs_of_two_hosts, an_arriving_job, what_would_help, files_of_jobs, files_whose_jobs_have_other_numbers, removed_by_its_number, a_failed_file, all_failed_files, a_job_that_waits_for_pages]
 
 
 if __name__ == "__main__":

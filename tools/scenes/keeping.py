@@ -443,6 +443,8 @@ def a_full_disk():
         room.await_files(0)
         check(b"c" not in room.printed() and b"d" in room.printed(), "other octets")
         check("isn't kept" in room.log(), room.log())
+        # One line tells of it, and none that the job isn't open behind that.
+        check("NotOpen" not in room.log(), room.log())
         return f"{octet}, then {full}; the log: {room.log().strip().splitlines()[-1][-90:]}"
 
 

@@ -233,10 +233,21 @@ impl<R: Files<File = File> + Clock + Log + Wait, E: HouseLedger> Errand for Prin
     }
 }
 
+/// What a printer of a house prints to, by which the house is asked while it waits.
+type PrintingDevice<'p, 'h, 'a, R, E> = Device<
+    'p,
+    Printing<'h, 'a, R, E>,
+    TcpDial<'p, R, Printing<'h, 'a, R, E>>,
+    Pauses<'p, R, Printing<'h, 'a, R, E>>,
+    FileFolder<'p, R>,
+>;
+
 impl<
+    'h,
+    'a,
     R: Files<File = File> + Net<Listener = TcpListener, Stream = TcpStream> + Clock + Log + Wait,
     E: HouseLedger,
-> Printing<'_, '_, R, E> {
+> Printing<'h, 'a, R, E> {
     /// Has a printer's pages written to this device, until the spool is closed. Answers the seat.
     fn print_to<D: Dial + Causes + Drop, P: Pause + Drop, F: PrinterFolder + Causes + Drop>(
         &self,
@@ -258,11 +269,10 @@ impl<
         seat
     }
 
-    /// Has a printer's pages written to what it prints to, until the spool is closed. Answers the seat.
-    pub fn print_all(&self, seat: PrintingSeat<E>, opened: OpenedPlace) -> PrintingSeat<E> {
-        let hall = self.hall;
-        let (printer, limits) = (seat.printer(), hall.printer_limits);
-        let device = match opened {
+    /// What the printer of this number prints to, as a device.
+    fn device_of(&self, printer: u32, opened: OpenedPlace) -> PrintingDevice<'_, 'h, 'a, R, E> {
+        let (hall, limits) = (self.hall, self.hall.printer_limits);
+        match opened {
             OpenedPlace::File(outlet) => {
                 Device::File(PrinterFile::new(printer, outlet, self, hall.kept.is_some()))
             }
@@ -276,7 +286,12 @@ impl<
                 let folder = FileFolder::new(hall.rt, hall.alloc, printer, path, next);
                 Device::Folder(FolderSink::new(folder))
             }
-        };
+        }
+    }
+
+    /// Has a printer's pages written to what it prints to, until the spool is closed. Answers the seat.
+    pub fn print_all(&self, seat: PrintingSeat<E>, opened: OpenedPlace) -> PrintingSeat<E> {
+        let device = self.device_of(seat.printer(), opened);
         self.print_to(seat, device)
     }
 }
