@@ -12,7 +12,7 @@ use log::{Log, warn};
 use lpd_commands::{OctetRead, OctetWrite};
 use lpd_values::Refusal;
 use noted_requests::Noting;
-use parked_requests::{Parking, Parks, Parted};
+use parked_requests::{JobWays, Parking, Parks, Parted};
 use program_edge::{Limits, StreamReader, StreamWriter, pass_over};
 use request_session::{Input, Requests, serve_with};
 use server_folders::JobFolder;
@@ -282,6 +282,30 @@ impl<'h, 'a, R: Files<File = File> + Clock + Wait + Log, E: HouseLedger> Answeri
         inner
     }
 
+    /// What has each job of a seat of this number go through the spool or beside it, over what carries out the requests of the spool.
+    fn parking_of<Q: Requests>(
+        &self,
+        kept: &'h JobFolder<'a, R>,
+        number: u32,
+        spool: Q,
+    ) -> Parking<Q, JobDoors<'h, 'a, R, E>> {
+        let hall = self.hall;
+        let doors = JobDoors::new(self.spool, hall, kept, number);
+        let page_size = hall.oversight.config.page_size();
+        Parking::new(hall.alloc, page_size, spool, doors)
+    }
+
+    /// Serves connections as `serve_keeping` does, where each job goes the way that is chosen for it.
+    fn serve_ways<Q: Requests + Served + Drop, W: JobWays + Drop>(
+        &self,
+        kept: &'h JobFolder<'a, R>,
+        number: u32,
+        serves: Serves,
+        parking: Parking<Q, W>,
+    ) -> Parking<Q, W> {
+        self.serve_keeping(kept, number, serves, parking)
+    }
+
     /// Serves connections as `serve_keeping` does, where each job goes through the spool or beside it. Answers what carries out the
     /// requests of the spool.
     fn serve_parking<Q: Requests + Served + Drop>(
@@ -291,12 +315,8 @@ impl<'h, 'a, R: Files<File = File> + Clock + Wait + Log, E: HouseLedger> Answeri
         serves: Serves,
         spool: Q,
     ) -> Q {
-        let hall = self.hall;
-        let doors = JobDoors::new(self.spool, hall, kept, number);
-        let page_size = hall.oversight.config.page_size();
-        let parking = Parking::new(hall.alloc, page_size, spool, doors);
-        self.serve_keeping(kept, number, serves, parking)
-            .into_inner()
+        let parking = self.parking_of(kept, number, spool);
+        self.serve_ways(kept, number, serves, parking).into_inner()
     }
 
     /// Serves connections through a seat, with a folder in which jobs are kept until they are printed.

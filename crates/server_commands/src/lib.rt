@@ -3,8 +3,8 @@
 
 mod answer_lines;
 mod commander;
-mod jobs;
+mod job_commands;
 mod owned_job;
-mod queues;
+mod queue_commands;
 
 pub use commander::{Commander, end_answer};

@@ -57,14 +57,21 @@ impl fmt::Display for Unfed {
     }
 }
 
+/// Whether a job that was refused so may be taken once there is room for it.
+fn is_of_room(refusal: Refusal) -> bool {
+    matches!(
+        refusal,
+        Refusal::TableFull | Refusal::AccountFull | Refusal::Memory
+    )
+}
+
 /// Whether a job that was fed is to be fed again, once there is room for it.
 fn waits_for_room(fed: Fed) -> bool {
-    matches!(
-        fed,
-        Fed::Served(SessionEnd::Refused(
-            Refusal::TableFull | Refusal::AccountFull | Refusal::Memory
-        )) | Fed::Served(SessionEnd::Memory)
-    )
+    match fed {
+        Fed::Served(SessionEnd::Refused(refusal)) => is_of_room(refusal),
+        Fed::Served(end) => end == SessionEnd::Memory,
+        _ => false,
+    }
 }
 
 /// What all queues share of a spool, at one look.
@@ -157,6 +164,42 @@ impl<R: Files<File = File> + Clock + Log + Wait, E: HouseLedger> Feeding<'_, '_,
         }
     }
 
+    /// Serves the job in a file, as a session of its sender. How that ended, and whether the spool has it.
+    fn serve_file(
+        &self,
+        store: &mut StoredJobs<'_, R>,
+        feeder: &mut Feeder<'_, '_, R, E>,
+        number: u64,
+    ) -> (Fed, bool) {
+        let (rt, alloc) = (self.hall.rt, self.hall.alloc);
+        feeder.inner.hand.folder.take(number);
+        let fed = feed_one(rt, alloc, store, feeder, number);
+        let hand = &mut feeder.inner.hand;
+        let is_passed = hand.folder.is_passed();
+        hand.let_go();
+        if let Some(fault) = hand.folder.take_fault() {
+            let becomes = aftermath(fault.is_absence());
+            warn!(rt; target: PART, "{fault}: {becomes}");
+        }
+        (fed, is_passed)
+    }
+
+    /// Tells why a job that was fed isn't in the spool, and that its file stays where it is still there.
+    fn tell_unfed(&self, store: &mut StoredJobs<'_, R>, number: u64, fed: Fed) {
+        let rt = self.hall.rt;
+        if fed == Fed::Absent {
+            warn!(rt; target: PART, "the job in file {number}.job isn't printed: its file is gone");
+            return;
+        }
+        if let Some(fault) = store.take_fault() {
+            let why = fault.cause;
+            warn!(rt; target: PART, "the job in file {number}.job isn't printed, and stays where it is: {why}");
+            return;
+        }
+        let why = Unfed(fed);
+        warn!(rt; target: PART, "the job in file {number}.job isn't printed, and stays where it is: {why}");
+    }
+
     /// Feeds a job that was taken from its line. False where it waits again.
     fn feed(
         &self,
@@ -165,17 +208,9 @@ impl<R: Files<File = File> + Clock + Log + Wait, E: HouseLedger> Feeding<'_, '_,
         place: usize,
         job: ParkedJob,
     ) -> bool {
-        let (rt, alloc, number) = (self.hall.rt, self.hall.alloc, job.number);
+        let number = job.number;
         let mut store = StoredJobs::new(&kept.disk);
-        feeder.inner.hand.folder.take(number);
-        let fed = feed_one(rt, alloc, &mut store, feeder, number);
-        let hand = &mut feeder.inner.hand;
-        let is_passed = hand.folder.is_passed();
-        hand.let_go();
-        if let Some(fault) = hand.folder.take_fault() {
-            let becomes = aftermath(fault.is_absence());
-            warn!(rt; target: PART, "{fault}: {becomes}");
-        }
+        let (fed, is_passed) = self.serve_file(&mut store, feeder, number);
         if is_passed {
             kept.disk.lines().enter(place, number);
             return true;
@@ -185,17 +220,7 @@ impl<R: Files<File = File> + Clock + Log + Wait, E: HouseLedger> Feeding<'_, '_,
             return false;
         }
         kept.disk.lines().leave(place, number);
-        if fed == Fed::Absent {
-            warn!(rt; target: PART, "the job in file {number}.job isn't printed: its file is gone");
-            return true;
-        }
-        if let Some(fault) = store.take_fault() {
-            let why = fault.cause;
-            warn!(rt; target: PART, "the job in file {number}.job isn't printed, and stays where it is: {why}");
-            return true;
-        }
-        let why = Unfed(fed);
-        warn!(rt; target: PART, "the job in file {number}.job isn't printed, and stays where it is: {why}");
+        self.tell_unfed(&mut store, number, fed);
         true
     }
 

@@ -2,7 +2,7 @@
 
 use crate::answer_lines::AnswerLines;
 use crate::commander::Commander;
-use crate::jobs::is_received;
+use crate::job_commands::is_received;
 use control_lines::{AnswerEnd, Escaped};
 use decimals::read_decimal;
 use log::Log;

@@ -11,13 +11,7 @@ use std::io::Error;
 
 /// A device of which the pages are counted that were written, and that were not.
 #[derive(Drop)]
-pub(crate) struct DeviceSink<
-    'a,
-    Q: Errand,
-    D: Dial + Drop,
-    P: Pause + Drop,
-    F: PrinterFolder + Drop,
-> {
+pub struct DeviceSink<'a, Q: Errand, D: Dial + Drop, P: Pause + Drop, F: PrinterFolder + Drop> {
     device: Device<'a, Q, D, P, F>,
     cause: Option<Error>,
     written: u64,
@@ -32,7 +26,7 @@ impl<
     F: PrinterFolder + Causes + Drop,
 > DeviceSink<'a, Q, D, P, F> {
     /// A sink that writes to this device, on which no page was written.
-    pub(crate) fn new(device: Device<'a, Q, D, P, F>) -> DeviceSink<'a, Q, D, P, F>
+    pub fn new(device: Device<'a, Q, D, P, F>) -> DeviceSink<'a, Q, D, P, F>
         ensures { (result.written ≡ 0) × (result.faults ≡ 0) }
     {
         DeviceSink {

@@ -6,7 +6,7 @@ ghost use Rattle.std.specs.declared.io.Error.{Error};
 use std::io::Error;
 
 /// What keeps why a page wasn't written. `PrintSink` says what is counted and no more, so this is a trait beside it.
-pub(crate) trait Explains {
+pub trait Explains {
     ghost why: { Self → Option Error };
 
     /// Why the last page that wasn't written wasn't; None where all were.
