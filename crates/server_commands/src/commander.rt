@@ -1,10 +1,10 @@
 //! Who does what is asked at the control socket.
 
-use crate::answer_lines::AnswerLines;
 use control_lines::{AnswerEnd, CommandFault, ControlCommand};
 use log::Log;
 use server_care::{Commands, Reply};
 use server_house::{Hall, HouseLedger, HouseSeat, HouseSpool, ServerFault};
+use server_jobs::{AnswerLines, JobCommander};
 use server_survey::Surveyor;
 use std::alloc::{AllocError, Global};
 use std::fs::{File, Files};
@@ -40,6 +40,14 @@ impl<'h, 'a, R, E: HouseLedger> Commander<'h, 'a, R, E> {
         }
     }
 
+    /// Who does with single jobs what is asked.
+    pub(crate) fn of_jobs(&self) -> JobCommander<'h, 'a, R, E> {
+        JobCommander {
+            spool: self.spool,
+            hall: self.hall,
+        }
+    }
+
     /// An answer without a line.
     pub(crate) fn no_lines(&self) -> AnswerLines {
         AnswerLines::new(self.hall.alloc)
@@ -67,11 +75,13 @@ impl<R: Files<File = File> + Clock + Log + Wait, E: HouseLedger> Commander<'_, '
             ControlCommand::Remove { queue, whom } => {
                 self.remove_jobs(seat, queue.as_slice(), whom.as_slice())
             }
-            ControlCommand::CancelJob { number } => self.cancel_job(seat, *number),
-            ControlCommand::CancelFile { number } => self.cancel_file(seat, *number),
-            ControlCommand::Resend { number } => self.resend_job(*number),
-            ControlCommand::ResendAll => self.resend_all(None),
-            ControlCommand::ResendQueue { queue } => self.resend_all(Some(queue.as_slice())),
+            ControlCommand::CancelJob { number } => self.of_jobs().cancel_job(seat, *number),
+            ControlCommand::CancelFile { number } => self.of_jobs().cancel_file(seat, *number),
+            ControlCommand::Resend { number } => self.of_jobs().resend_job(*number),
+            ControlCommand::ResendAll => self.of_jobs().resend_all(None),
+            ControlCommand::ResendQueue { queue } => self
+                .of_jobs()
+                .resend_all(Some(queue.as_slice())),
             ControlCommand::Rotate => self.rotate_account(seat),
             ControlCommand::Stop { .. } | ControlCommand::StopNow => {
                 self.no_lines().end(AnswerEnd::Done)

@@ -1,10 +1,7 @@
 //! What is asked at a server's control socket, each command as calls of its spool and the lines of its answer.
 #![tactic(auto)]
 
-mod answer_lines;
 mod commander;
-mod job_commands;
-mod owned_job;
 mod queue_commands;
 
 pub use commander::{Commander, end_answer};

@@ -1,12 +1,11 @@
 //! Commands for a queue, and for the account.
 
-use crate::answer_lines::AnswerLines;
 use crate::commander::Commander;
-use crate::job_commands::is_received;
 use control_lines::{AnswerEnd, Escaped};
 use decimals::read_decimal;
 use log::Log;
 use server_house::{HouseLedger, HouseSeat, PrintedLine, rotation_of};
+use server_jobs::{AnswerLines, is_received};
 use shared_spool::{Octets, Refusal, SeenJob};
 use std::alloc::AllocError;
 use std::fs::{File, Files};
@@ -165,7 +164,8 @@ impl<R: Files<File = File> + Clock + Log + Wait, E: HouseLedger> Commander<'_, '
         let Some(job) = jobs.find(is_meant) else {
             return Ok(None);
         };
-        let name = self.name_of(job);
+        let commander = self.of_jobs();
+        let name = commander.name_of(job);
         let line = format!(in self.hall.alloc;
             "remove takes the number that the client gave: for {name} say cancel job {number}"
         )?;

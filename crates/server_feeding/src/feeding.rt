@@ -15,13 +15,13 @@ use log::{Log, warn};
 use lpd_values::Refusal;
 use noted_requests::Noting;
 use parked_lines::{FreePart, ParkedJob};
-use parked_requests::Through;
+use parked_requests::{Parks, Through};
 use server_folders::{FedFolder, JobFolder, StoredJobs, aftermath};
 use server_house::{Hall, HouseLedger, HouseSeat, HouseSpool};
 use server_sessions::{
     HouseSeated, SessionNotes, is_awaited, is_stopped, is_tried, part_of, unclaimed,
 };
-use session::{Seated, SessionEnd};
+use session::{Requests, Seated, SessionEnd};
 use shared_spool::Vacancy;
 use std::alloc::AllocError;
 use std::fs::{File, Files};
@@ -40,19 +40,30 @@ const LOOK_MS: u64 = 100;
 #[derive(Clone, Copy)]
 struct Unfed(Fed);
 
+/// Why a job isn't in the spool whose session ended so, where it wasn't refused.
+fn why_unserved(end: SessionEnd) -> &'static str {
+    match end {
+        SessionEnd::Memory => "memory was refused",
+        SessionEnd::ReadFault | SessionEnd::WriteFault => "its file can't be read",
+        _ => "its file has no whole job",
+    }
+}
+
+/// Why a job isn't in the spool that was fed so, where it wasn't served.
+fn why_unfed(fed: Fed) -> &'static str {
+    match fed {
+        Fed::Unreadable => "its file can't be read",
+        Fed::Headless(_) => "its file isn't that of a kept job",
+        _ => "its file can't be opened",
+    }
+}
+
 impl fmt::Display for Unfed {
     fn fmt<W: fmt::Write>(&self, f: &mut fmt::Formatter<W>) -> fmt::Result {
         match self.0 {
             Fed::Served(SessionEnd::Refused(refusal)) => write!(f, "it is refused: {refusal}"),
-            Fed::Served(SessionEnd::Finished | SessionEnd::Closed | SessionEnd::Broken) => {
-                f.write_str("its file has no whole job")
-            }
-            Fed::Served(SessionEnd::Memory) => f.write_str("memory was refused"),
-            Fed::Served(SessionEnd::ReadFault | SessionEnd::WriteFault) | Fed::Unreadable => {
-                f.write_str("its file can't be read")
-            }
-            Fed::Headless(_) => f.write_str("its file isn't that of a kept job"),
-            Fed::Absent | Fed::Unopened(_) => f.write_str("its file can't be opened"),
+            Fed::Served(end) => f.write_str(why_unserved(end)),
+            fed => f.write_str(why_unfed(fed)),
         }
     }
 }
@@ -97,11 +108,12 @@ impl SharedRoom {
     }
 }
 
-/// The seat of whoever feeds, with the hand that has the file which is being fed, and what is told of its job.
-type Feeder<'h, 'a, R, E> = Noting<
-    Keeping<Through<HouseSeated<'h, R, E>>, FedFolder<'h, R>>,
-    SessionNotes<'h, 'a, R>,
->;
+/// What carries out the requests of whoever feeds, over any that does so for the spool: with the hand that has the file which is being fed, and what is
+/// told of its job.
+type FeederOver<'h, 'a, T, R> = Noting<Keeping<T, FedFolder<'h, R>>, SessionNotes<'h, 'a, R>>;
+
+/// The same over a seat.
+type Feeder<'h, 'a, R, E> = FeederOver<'h, 'a, Through<HouseSeated<'h, R, E>>, R>;
 
 /// Who feeds kept jobs to the spool of a server.
 #[derive(Drop)]
@@ -164,22 +176,31 @@ impl<R: Files<File = File> + Clock + Log + Wait, E: HouseLedger> Feeding<'_, '_,
         }
     }
 
-    /// Serves the job in a file, as a session of its sender. How that ended, and whether the spool has it.
-    fn serve_file(
+    /// Serves the job in a file, as a session of its sender, to whatever carries its requests out and is told of each job.
+    fn serve_noting<T: Requests>(
         &self,
         store: &mut StoredJobs<'_, R>,
-        feeder: &mut Feeder<'_, '_, R, E>,
+        feeder: &mut Noting<T, SessionNotes<'_, '_, R>>,
+        number: u64,
+    ) -> Fed {
+        feed_one(self.hall.rt, self.hall.alloc, store, feeder, number)
+    }
+
+    /// Serves the job in a file. How that ended, and whether the spool has it.
+    fn serve_file<T: Parks>(
+        &self,
+        store: &mut StoredJobs<'_, R>,
+        feeder: &mut FeederOver<'_, '_, T, R>,
         number: u64,
     ) -> (Fed, bool) {
-        let (rt, alloc) = (self.hall.rt, self.hall.alloc);
         feeder.inner.hand.folder.take(number);
-        let fed = feed_one(rt, alloc, store, feeder, number);
+        let fed = self.serve_noting(store, feeder, number);
         let hand = &mut feeder.inner.hand;
         let is_passed = hand.folder.is_passed();
         hand.let_go();
         if let Some(fault) = hand.folder.take_fault() {
             let becomes = aftermath(fault.is_absence());
-            warn!(rt; target: PART, "{fault}: {becomes}");
+            warn!(self.hall.rt; target: PART, "{fault}: {becomes}");
         }
         (fed, is_passed)
     }

@@ -3,9 +3,9 @@
 use log::Log;
 use printer_devices::{Device, OpenedPlace, PrinterFile};
 use printer_sinks::{Dial, FolderSink, Pause, PrinterFolder, SocketSink};
-use printer_worker::work;
+use printer_worker::{PrintSink, work};
 use server_house::{Hall, House, HouseLedger, HouseSpool, PrintingSeat};
-use server_pages::{DeviceSink, Watched};
+use server_pages::{DeviceSink, Explains, Watched};
 use sink_devices::{Causes, Errand, FileFolder, Pauses, TcpDial};
 use std::fs::{File, Files};
 use std::io::Error;
@@ -100,16 +100,24 @@ impl<
     R: Files<File = File> + Net<Listener = TcpListener, Stream = TcpStream> + Clock + Log + Wait,
     E: HouseLedger,
 > Printing<'h, 'a, R, E> {
-    /// Has a printer's pages written to this device, until the spool is closed. Answers the seat.
+    /// Has a printer's pages written to a sink, of which each page is noted, until the spool is closed. Answers the seat.
+    fn print_noted<S: PrintSink + Explains + Drop>(
+        &self,
+        seat: PrintingSeat<E>,
+        sink: S,
+    ) -> PrintingSeat<E> {
+        let mut sink = Watched::new(self.house(), seat.printer(), sink);
+        let (seat, _report) = work(self.rt, self.spool, seat, &mut sink);
+        seat
+    }
+
+    /// The same, to this device.
     fn print_to<D: Dial + Causes + Drop, P: Pause + Drop, F: PrinterFolder + Causes + Drop>(
         &self,
         seat: PrintingSeat<E>,
         device: Device<'_, Printing<'_, '_, R, E>, D, P, F>,
     ) -> PrintingSeat<E> {
-        let (house, rt) = (self.house(), self.rt);
-        let mut sink = Watched::new(house, seat.printer(), DeviceSink::new(device));
-        let (seat, _report) = work(rt, self.spool, seat, &mut sink);
-        seat
+        self.print_noted(seat, DeviceSink::new(device))
     }
 
     /// What the printer of this number prints to, as a device.

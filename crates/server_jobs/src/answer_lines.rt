@@ -9,7 +9,7 @@ use std::fmt::Display;
 
 /// The lines of an answer, each behind the others. That memory was refused for one is kept until its end.
 #[derive(Drop)]
-pub(crate) struct AnswerLines {
+pub struct AnswerLines {
     alloc: Global,
     text: String,
     is_lost: bool,
@@ -17,7 +17,7 @@ pub(crate) struct AnswerLines {
 
 impl AnswerLines {
     /// No line.
-    pub(crate) fn new(alloc: Global) -> AnswerLines
+    pub fn new(alloc: Global) -> AnswerLines
         ensures text { string_bytes result.text ≡ [] }
         ensures whole { result.is_lost ≡ false }
     {
@@ -25,7 +25,7 @@ impl AnswerLines {
     }
 
     /// These lines.
-    pub(crate) fn of_lines(alloc: Global, text: String) -> AnswerLines
+    pub fn of_lines(alloc: Global, text: String) -> AnswerLines
         ensures text { result.text ≡ text }
         ensures whole { result.is_lost ≡ false }
     {
@@ -37,7 +37,7 @@ impl AnswerLines {
     }
 
     /// This line, behind the others.
-    pub(crate) fn words(&mut self, line: &str)
+    pub fn words(&mut self, line: &str)
         ensures told { self.new.is_lost ≡ false
             → string_bytes self.new.text ≡ string_bytes self.old.text ++ (line.now ++ 10 ∷ []) }
         ensures lost { self.old.is_lost ≡ true → self.new.is_lost ≡ true }
@@ -49,7 +49,7 @@ impl AnswerLines {
     }
 
     /// A line that was made, behind the others, unless memory was refused for it.
-    pub(crate) fn line(&mut self, line: Result<String, AllocError>)
+    pub fn line(&mut self, line: Result<String, AllocError>)
         ensures lost { self.old.is_lost ≡ true → self.new.is_lost ≡ true }
     {
         match line {
@@ -59,7 +59,7 @@ impl AnswerLines {
     }
 
     /// The octets of the answer, which ends so. An error where memory is refused, or was for one of its lines.
-    pub(crate) fn end(self, end: AnswerEnd<'_>) -> Result<Vec<u8>, AllocError>
+    pub fn end(self, end: AnswerEnd<'_>) -> Result<Vec<u8>, AllocError>
         ensures { IfOk result (λ octets. octets.items
             ≡ string_bytes self.text ++ (end_words end.entry ++ 10 ∷ [])) }
     {
@@ -74,10 +74,7 @@ impl AnswerLines {
     }
 
     /// The octets of the answer: nothing more where this was done, else why it wasn't. An error where memory is refused.
-    pub(crate) fn end_by<W: Display + Drop>(
-        self,
-        refused: Option<W>,
-    ) -> Result<Vec<u8>, AllocError> {
+    pub fn end_by<W: Display + Drop>(self, refused: Option<W>) -> Result<Vec<u8>, AllocError> {
         match refused {
             None => self.end(AnswerEnd::Done),
             Some(refusal) => {

@@ -1,12 +1,11 @@
 //! Commands for one job: it is removed, by its number of acceptance or by that of its file, or fed again.
 
 use crate::answer_lines::AnswerLines;
-use crate::commander::Commander;
 use crate::owned_job::OwnedJob;
 use control_lines::AnswerEnd;
 use log::Log;
 use server_folders::{FileRemoval, FiledJob, JobFolder, Unsent};
-use server_house::{HouseLedger, HouseSeat};
+use server_house::{Hall, HouseLedger, HouseSeat, HouseSpool};
 use shared_spool::{Refusal, SeenJob, Unremoved};
 use standings::{JobName, JobNumber, JobStage, stage_of};
 use std::alloc::AllocError;
@@ -38,17 +37,32 @@ fn filed_name(number: u64, job: &FiledJob) -> OwnedJob<'_> {
 }
 
 /// Whether a job is whole and hasn't ended.
-pub(crate) fn is_received(job: &SeenJob) -> bool {
+pub fn is_received(job: &SeenJob) -> bool {
     matches!(stage_of(job), JobStage::Waiting | JobStage::Printing)
 }
 
-impl<R: Files<File = File> + Clock + Log + Wait, E: HouseLedger> Commander<'_, '_, R, E> {
+/// Who does with single jobs of a server what is asked at its control socket.
+#[derive(Drop)]
+pub struct JobCommander<'h, 'a, R, E: HouseLedger> {
+    pub spool: &'h HouseSpool<E>,
+    pub hall: &'h Hall<'a, R>,
+}
+
+impl<R, E: HouseLedger> JobCommander<'_, '_, R, E> {
+    /// An answer without a line.
+    fn no_lines(&self) -> AnswerLines {
+        AnswerLines::new(self.hall.alloc)
+    }
+}
+
+impl<R: Files<File = File> + Clock + Log + Wait, E: HouseLedger> JobCommander<'_, '_, R, E> {
     /// The name of a held job.
-    pub(crate) fn name_of<'j>(&'j self, job: &'j SeenJob) -> OwnedJob<'j> {
+    pub fn name_of<'j>(&'j self, job: &'j SeenJob) -> OwnedJob<'j> {
+        let book = self.hall.job_book.as_ref();
         OwnedJob {
             name: JobName {
                 number: JobNumber::Accepted(job.number),
-                client: self.surveyor().numbers_of(job.number).client,
+                client: book.and_then(|book| book.number_of(self.hall.rt, job.number)),
             },
             user: job.user.as_slice(),
             host: job.host.as_slice(),
@@ -100,11 +114,7 @@ impl<R: Files<File = File> + Clock + Log + Wait, E: HouseLedger> Commander<'_, '
     }
 
     /// Removes a received job, by its number of acceptance, and tells whose it was.
-    pub(crate) fn cancel_job(
-        &self,
-        seat: &mut HouseSeat<E>,
-        number: u64,
-    ) -> Result<Vec<u8>, AllocError> {
+    pub fn cancel_job(&self, seat: &mut HouseSeat<E>, number: u64) -> Result<Vec<u8>, AllocError> {
         let sight = self.spool.sight(self.hall.rt, self.hall.alloc)?;
         let mut jobs = sight.spool.jobs.iter();
         let Some(job) = jobs.find(|job| job.number == number) else {
@@ -158,11 +168,7 @@ impl<R: Files<File = File> + Clock + Log + Wait, E: HouseLedger> Commander<'_, '
     }
 
     /// Removes a kept job, by the number of its file, and tells whose it was: from the spool where that has it, else from the folder.
-    pub(crate) fn cancel_file(
-        &self,
-        seat: &mut HouseSeat<E>,
-        number: u64,
-    ) -> Result<Vec<u8>, AllocError> {
+    pub fn cancel_file(&self, seat: &mut HouseSeat<E>, number: u64) -> Result<Vec<u8>, AllocError> {
         let Some(kept) = &self.hall.kept else {
             return self.refuse(NOT_KEPT);
         };
@@ -188,7 +194,7 @@ impl<R: Files<File = File> + Clock + Log + Wait, E: HouseLedger> Commander<'_, '
     }
 
     /// Has a job fed again that has failed, by the number of its file, and tells whose it is.
-    pub(crate) fn resend_job(&self, number: u64) -> Result<Vec<u8>, AllocError> {
+    pub fn resend_job(&self, number: u64) -> Result<Vec<u8>, AllocError> {
         let Some(kept) = &self.hall.kept else {
             return self.refuse(NOT_KEPT);
         };
@@ -212,7 +218,7 @@ impl<R: Files<File = File> + Clock + Log + Wait, E: HouseLedger> Commander<'_, '
 
     /// Has each job fed again that has failed, of the queue of a name where one is given. Tells whose the first 1,000 are, how many more
     /// there are, and which couldn't be.
-    pub(crate) fn resend_all(&self, queue: Option<&[u8]>) -> Result<Vec<u8>, AllocError> {
+    pub fn resend_all(&self, queue: Option<&[u8]>) -> Result<Vec<u8>, AllocError> {
         let Some(kept) = &self.hall.kept else {
             return self.refuse(NOT_KEPT);
         };
