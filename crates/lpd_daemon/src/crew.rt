@@ -57,7 +57,7 @@ pub(crate) struct Entrance {
     pub(crate) places: Vec<OpenedPlace>,
     pub(crate) counter: Counter,
     /// Where the status is asked for, if it is shown.
-    pub(crate) board: Option<Board>,
+    pub(crate) board: Option<Box<Board>>,
 }
 
 /// What comes back once all threads have ended: the seats, and what waits for the server's end.
@@ -200,7 +200,7 @@ impl<E: HouseLedger + Send + Sync> Crew<E> {
         scope: &Scope<'s, N>,
         house: House<'s, '_, R, E>,
         steward: HouseSeat<E>,
-        reached: (Counter, Option<Board>),
+        reached: (Counter, Option<Box<Board>>),
     )
     where
         R::Dir: Send + Sync,
@@ -214,7 +214,9 @@ impl<E: HouseLedger + Send + Sync> Crew<E> {
         self.steward = thread.ok();
         self.is_whole &= self.steward.is_some();
         if let Some(board) = board {
-            let thread = scope.spawn(move || Presenter { spool, hall }.show_all(board));
+            let thread = scope.spawn(move || Presenter { spool, hall }.show_all(Box::into_inner(
+                board,
+            )));
             self.is_whole &= keep(&mut self.seatless, thread);
         }
     }

@@ -2,6 +2,7 @@
 
 use crate::crew::Entrance;
 use config_values::Config;
+use connection_lobby::{Doors, Lobby};
 use mio::Waker;
 use printer_devices::pipes_of;
 use program_edge::{Settings, StartFault};
@@ -9,13 +10,13 @@ use server_board::{Board, open_board};
 use server_care::Counter;
 use server_clients::{Gate, listen};
 use server_house::{Hall, Host, Oversight, Showing, sessions_of};
-use server_start::{Takers, check_descriptors, keep_room, open_stores};
+use server_start::{Stores, Takers, check_descriptors, keep_room, open_stores};
 use std::alloc::{AllocError, Global};
 use std::fs::File;
 use std::net::SocketAddr;
 
 /// A hall knows of the thread of a board, where there is one.
-fn show_at<R>(hall: &mut Hall<'_, R>, board: Option<(Board, Waker)>) -> Option<Board> {
+fn show_at<R>(hall: &mut Hall<'_, R>, board: Option<(Box<Board>, Waker)>) -> Option<Box<Board>> {
     let (board, waker) = board?;
     hall.showing = Some(Showing::new(waker));
     Some(board)
@@ -32,6 +33,77 @@ fn oversee(oversight: &mut Oversight, pipes: Vec<Option<File>>, waker: Option<Wa
     oversight.waker = waker;
 }
 
+/// Where a server listens, and where it is looked at.
+#[derive(Drop)]
+struct Doorsteps {
+    lobby: Lobby,
+    port: u16,
+    /// Where its status is asked for, if it is shown, and what wakes who answers there.
+    board: Option<(Box<Board>, Waker)>,
+    /// The pipes of its printers.
+    pipes: Vec<Option<File>>,
+}
+
+/// Listens, for who asks for the status first. What wakes who lets connections in comes with it.
+///
+/// Opening where it can't listen, of which the log is told why too; Memory.
+fn open_doors<R: Host>(
+    rt: &R,
+    alloc: Global,
+    settings: &mut Settings<'_>,
+    pipes: Vec<Option<File>>,
+    takers: &mut Takers,
+) -> Result<(Box<Doorsteps>, Waker), StartFault> {
+    let board = open_board(rt, alloc, settings)?;
+    takers.is_shown = board.is_some();
+    let (lobby, waker, port) = listen(rt, alloc, settings, takers.kept())?;
+    let doorsteps = Doorsteps {
+        lobby,
+        port,
+        board,
+        pipes,
+    };
+    Ok((boxed(alloc, doorsteps)?, waker))
+}
+
+/// Puts what was opened into a hall, but for what single threads own.
+fn furnish<'a, R: Host>(
+    hall: &mut Hall<'a, R>,
+    stores: Stores<'a, R>,
+    doorsteps: Doorsteps,
+    counter: Counter,
+    doors: Doors,
+    (settings, config): (&Settings<'_>, &Config),
+) -> Entrance {
+    let Doorsteps {
+        lobby,
+        port,
+        board,
+        pipes,
+    } = doorsteps;
+    let mut counter = counter;
+    let places = stores.put_into(hall);
+    let board = show_at(hall, board);
+    if counter.is_open() || board.is_some() {
+        hall.oversight.watch(hall.rt);
+    }
+    oversee(&mut hall.oversight, pipes, counter.take_waker());
+    let room = keep_room(hall, settings, config);
+    let gate = Gate {
+        lobby,
+        doors,
+        every: settings.rotate,
+        room,
+    };
+    Entrance {
+        port,
+        gate,
+        places,
+        counter,
+        board,
+    }
+}
+
 /// Opens all that a server of these settings and this configuration has, and listens: what its threads share beside its spool, and what
 /// single ones own. `counter` is what reaches it beside its clients.
 ///
@@ -43,44 +115,32 @@ pub(crate) fn prepare<'a, R: Host>(
     config: &Config,
     counter: Counter,
 ) -> Result<(Box<Hall<'a, R>>, Box<Entrance>), StartFault> {
-    let (mut settings, mut counter) = (settings, counter);
-    let (has_steward, sessions) = (counter.is_open(), sessions_of(&settings));
-    let stores = open_stores(rt, alloc, &settings, config)?;
-    let places = stores.places.as_slice();
-    let pipes = pipes_of(alloc, if has_steward { places } else { &[] })?;
-    let board = open_board(rt, alloc, &settings)?;
-    let takers = Takers {
+    // What is large lives in boxes here, since each way out lets all of it go.
+    let counter = boxed(alloc, counter)?;
+    let mut settings = boxed(alloc, settings)?;
+    let stores = open_stores(rt, alloc, &*settings, config)?;
+    let mut takers = Takers {
         printers: config.printer_count(),
-        sessions,
+        sessions: sessions_of(&*settings),
         are_kept: stores.kept.is_some(),
         is_archived: stores.archive.is_some(),
-        is_watched: has_steward,
-        is_shown: board.is_some(),
+        is_watched: counter.is_open(),
+        is_shown: false,
     };
-    let (lobby, waker, port) = listen(rt, alloc, &mut settings, takers.kept())?;
-    let address = SocketAddr::from((settings.bind, port));
+    let places = stores.places.as_slice();
+    let pipes = pipes_of(alloc, if takers.is_watched { places } else { &[] })?;
+    let (doorsteps, waker) = open_doors(rt, alloc, &mut *settings, pipes, &mut takers)?;
+    let address = SocketAddr::from((settings.bind, doorsteps.port));
     check_descriptors(rt, alloc, address, takers)?;
-    let (hall, doors) = Hall::new(rt, alloc, &settings, config, waker)?;
+    let (hall, doors) = Hall::new(rt, alloc, &*settings, config, waker)?;
     let mut hall = boxed(alloc, hall)?;
-    let places = Box::into_inner(stores).put_into(&mut *hall);
-    let board = show_at(&mut *hall, board);
-    if has_steward || board.is_some() {
-        hall.oversight.watch(rt);
-    }
-    oversee(&mut hall.oversight, pipes, counter.take_waker());
-    let room = keep_room(&mut *hall, &settings, config);
-    let gate = Gate {
-        lobby,
+    let entrance = furnish(
+        &mut *hall,
+        Box::into_inner(stores),
+        Box::into_inner(doorsteps),
+        Box::into_inner(counter),
         doors,
-        every: settings.rotate,
-        room,
-    };
-    let entrance = Entrance {
-        port,
-        gate,
-        places,
-        counter,
-        board,
-    };
+        (&*settings, config),
+    );
     Ok((hall, boxed(alloc, entrance)?))
 }

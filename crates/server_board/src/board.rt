@@ -49,7 +49,7 @@ pub fn open_board<R: Log + Net<Listener = TcpListener, Stream = TcpStream>>(
     rt: &R,
     alloc: Global,
     settings: &Settings<'_>,
-) -> Result<Option<(Board, Waker)>, StartFault>
+) -> Result<Option<(Box<Board>, Waker)>, StartFault>
     ensures { IfErr result (IsUnopened (λ (part : StartPart). part ≡ Status)) }
 {
     let Some(place) = settings.status else {
@@ -75,6 +75,10 @@ pub fn open_board<R: Log + Net<Listener = TcpListener, Stream = TcpStream>>(
                 due: 0,
                 now_ms: 0,
                 drawn: None,
+            };
+            // It is large: whoever holds it beside what may fail lets it go by one call.
+            let Ok(board) = Box::new(alloc, board) else {
+                return Err(StartFault::Memory);
             };
             Ok(Some((board, waker)))
         }
