@@ -17,11 +17,12 @@ use server_board::{Board, Presenter};
 use server_care::{Care, Counter};
 use server_clients::{Answering, Gate, Porter, announce_all};
 use server_commands::Commander;
-use server_feeding::{Feeding, watch};
+use server_feeding::Feeding;
 use server_house::{
     Host, House, HouseLedger, HouseSeat, PrintingSeat, Roles, Seats, ServerFault, serves_at,
 };
 use server_printers::Printing;
+use server_watcher::watch;
 use std::alloc::Global;
 use std::fs::{File, Files};
 use std::net::{Net, TcpListener, TcpStream};

@@ -7,7 +7,7 @@
 //! locked, so that none is fed and none goes on.
 
 ghost use Rattle.std.specs.Prelude.{◌≡◌};
-ghost use Rattle.server_feeding.specs.Unloading.{is_offered, leaves, lets_go};
+ghost use Rattle.server_watcher.specs.Unloading.{is_offered, leaves, lets_go};
 
 use job_files::JobEnd;
 use log::{Log, warn};

@@ -1,7 +1,7 @@
 -- Which jobs leave the spool, and which keep those of their sender there.
 use Rattle.std.specs.Prelude.{ℕ, ◌==◌, ◌||◌, Bool, true, false, not, List}
 use Rattle.std.specs.List.{list_any}
-use Rattle.server_feeding.specs.declared.unloading.OfferedJob.{OfferedJob}
+use Rattle.server_watcher.specs.declared.unloading.OfferedJob.{OfferedJob}
 use Rattle.spool_snapshot.specs.declared.job.SeenJob.{SeenJob}
 use Rattle.standings.specs.declared.stage.JobStage.{JobStage}
 use Rattle.standings.specs.declared.stage.JobStage.TheVariants as far
