@@ -1,5 +1,7 @@
 //! Commands for a queue, and for the account.
 
+ghost use Rattle.std.specs.Prelude.{◌≡◌, ◌↔◌, ◌⊎◌, IsTrue, false, true};
+
 use crate::commander::Commander;
 use control_lines::{AnswerEnd, Escaped};
 use decimals::read_decimal;
@@ -15,6 +17,13 @@ use std::sync::Wait;
 
 /// Who removes what is removed at the control socket.
 const AGENT: &[u8] = b"root";
+
+/// Whether the spool's words of a removal are told: where a job of it was removed, or none in the folder of kept jobs either.
+fn tells_of_spool(has_removed: bool, has_parked: bool) -> bool
+    ensures { IsTrue result ↔ ((has_removed ≡ true) ⊎ (has_parked ≡ false)) }
+{
+    has_removed || !has_parked
+}
 
 impl<R: Files<File = File> + Clock + Log + Wait, E: HouseLedger> Commander<'_, '_, R, E> {
     /// The numbers of the printers of a queue that stand still now. An error where memory is refused.
@@ -200,7 +209,7 @@ impl<R: Files<File = File> + Clock + Log + Wait, E: HouseLedger> Commander<'_, '
                         more.words(hint.as_str());
                     }
                 }
-                let has_text = !removal.numbers.is_empty() || parked.is_empty();
+                let has_text = tells_of_spool(!removal.numbers.is_empty(), !parked.is_empty());
                 self.hall.end_removed(removal.numbers);
                 let mut octets = if has_text {
                     removal.text.into_vec()

@@ -8,6 +8,8 @@
 //! What can't be fed stays, with a warning: nothing that was acknowledged is taken away by anything but its end. A failed job becomes
 //! `N.failed` for the same reason. A server that stops feeds nothing more: what waits, waits for the next start.
 
+ghost use Rattle.std.specs.Prelude.{◌≡◌, ◌-◌, false, true};
+
 use config_values::Config;
 use kept_recovery::{Fed, feed_one};
 use kept_requests::Keeping;
@@ -82,6 +84,19 @@ fn waits_for_room(fed: Fed) -> bool {
         Fed::Served(SessionEnd::Refused(refusal)) => is_of_room(refusal),
         Fed::Served(end) => end == SessionEnd::Memory,
         _ => false,
+    }
+}
+
+/// How many jobs a queue may have more in the spool, which has `free` rows for more, where it has `used` there: one whose printer wasn't reached is tried
+/// with one job.
+fn most_rows(is_tried: bool, used: u64, free: u64) -> u64
+    ensures tried { is_tried ≡ true → result ≡ 1 - used }
+    ensures other { is_tried ≡ false → result ≡ free }
+{
+    if is_tried {
+        1u64.saturating_sub(used)
+    } else {
+        free
     }
 }
 
@@ -164,12 +179,8 @@ impl<R: Files<File = File> + Clock + Log + Wait, E: HouseLedger> Feeding<'_, '_,
         }
         let used = kept.disk.lines().used(place, config.limit_of(queue));
         let part = part_of(config, queue, shared.busy).free(&used);
-        // A printer that wasn't reached is tried with one job.
-        let most = if is_tried(self.hall, self.spool, queue) {
-            1u64.saturating_sub(used.rows)
-        } else {
-            vacancy.rows as u64
-        };
+        let is_tried = is_tried(self.hall, self.spool, queue);
+        let most = most_rows(is_tried, used.rows, vacancy.rows as u64);
         FreePart {
             rows: part.rows.min(most),
             pages: u64::from(part.pages).min(shared.unclaimed) as u32,

@@ -1,11 +1,12 @@
 //! The pages of a printer, each written to what the printer prints to.
 
+use crate::device_sink::DeviceSink;
 use log::Log;
 use printer_devices::{Device, OpenedPlace, PrinterFile};
 use printer_sinks::{Dial, FolderSink, Pause, PrinterFolder, SocketSink};
 use printer_worker::{PrintSink, work};
 use server_house::{Hall, House, HouseLedger, HouseSpool, PrintingSeat};
-use server_pages::{DeviceSink, Explains, Watched};
+use server_pages::{Explains, Watched};
 use sink_devices::{Causes, Errand, FileFolder, Pauses, TcpDial};
 use std::fs::{File, Files};
 use std::io::Error;

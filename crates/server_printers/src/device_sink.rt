@@ -2,16 +2,22 @@
 
 ghost use Rattle.std.specs.Prelude.{◌≡◌};
 
-use crate::sink::Explains;
 use printer_devices::Device;
 use printer_sinks::{Dial, Pause, PrinterFolder};
 use printer_worker::{HandedPage, Leaving, PrintSink, SinkFault};
+use server_pages::Explains;
 use sink_devices::{Causes, Errand};
 use std::io::Error;
 
 /// A device of which the pages are counted that were written, and that were not.
 #[derive(Drop)]
-pub struct DeviceSink<'a, Q: Errand, D: Dial + Drop, P: Pause + Drop, F: PrinterFolder + Drop> {
+pub(crate) struct DeviceSink<
+    'a,
+    Q: Errand,
+    D: Dial + Drop,
+    P: Pause + Drop,
+    F: PrinterFolder + Drop,
+> {
     device: Device<'a, Q, D, P, F>,
     cause: Option<Error>,
     written: u64,
@@ -26,7 +32,7 @@ impl<
     F: PrinterFolder + Causes + Drop,
 > DeviceSink<'a, Q, D, P, F> {
     /// A sink that writes to this device, on which no page was written.
-    pub fn new(device: Device<'a, Q, D, P, F>) -> DeviceSink<'a, Q, D, P, F>
+    pub(crate) fn new(device: Device<'a, Q, D, P, F>) -> DeviceSink<'a, Q, D, P, F>
         ensures { (result.written ≡ 0) × (result.faults ≡ 0) }
     {
         DeviceSink {
