@@ -1,6 +1,6 @@
 //! The lines of an answer at the control socket.
 
-ghost use Rattle.std.specs.Prelude.{◌≡◌, ◌++◌, ◌∷◌, [], IfOk, false, string_bytes, true};
+ghost use Rattle.std.specs.Prelude.{◌≡◌, ◌++◌, ◌∷◌, [], IfOk, IsErr, OnErr, false, string_bytes, true};
 ghost use Rattle.control_lines.specs.Answers.{end_words};
 
 use control_lines::AnswerEnd;
@@ -50,6 +50,9 @@ impl AnswerLines {
 
     /// A line that was made, behind the others, unless memory was refused for it.
     pub fn line(&mut self, line: Result<String, AllocError>)
+        ensures told { IfOk line (λ text. self.new.is_lost ≡ false → string_bytes self.new.text
+            ≡ string_bytes self.old.text ++ (string_bytes text ++ 10 ∷ [])) }
+        ensures refused { OnErr line (self.new.is_lost ≡ true) }
         ensures lost { self.old.is_lost ≡ true → self.new.is_lost ≡ true }
     {
         match line {
@@ -60,8 +63,9 @@ impl AnswerLines {
 
     /// The octets of the answer, which ends so. An error where memory is refused, or was for one of its lines.
     pub fn end(self, end: AnswerEnd<'_>) -> Result<Vec<u8>, AllocError>
-        ensures { IfOk result (λ octets. octets.items
+        ensures text { IfOk result (λ octets. octets.items
             ≡ string_bytes self.text ++ (end_words end.entry ++ 10 ∷ [])) }
+        ensures lost { self.is_lost ≡ true → IsErr result }
     {
         let end = format!(in self.alloc; "{end}")?;
         let mut answer = self;
