@@ -111,17 +111,16 @@ fn furnish<'a, R: Host>(
 pub(crate) fn prepare<'a, R: Host>(
     rt: &'a R,
     alloc: Global,
-    settings: Settings<'a>,
+    settings: &mut Settings<'a>,
     config: &Config,
     counter: Counter,
 ) -> Result<(Box<Hall<'a, R>>, Box<Entrance>), StartFault> {
     // What is large lives in boxes here, since each way out lets all of it go.
     let counter = boxed(alloc, counter)?;
-    let mut settings = boxed(alloc, settings)?;
-    let stores = open_stores(rt, alloc, &*settings, config)?;
+    let stores = open_stores(rt, alloc, settings, config)?;
     let mut takers = Takers {
         printers: config.printer_count(),
-        sessions: sessions_of(&*settings),
+        sessions: sessions_of(settings),
         are_kept: stores.kept.is_some(),
         is_archived: stores.archive.is_some(),
         is_watched: counter.is_open(),
@@ -129,10 +128,10 @@ pub(crate) fn prepare<'a, R: Host>(
     };
     let places = stores.places.as_slice();
     let pipes = pipes_of(alloc, if takers.is_watched { places } else { &[] })?;
-    let (doorsteps, waker) = open_doors(rt, alloc, &mut *settings, pipes, &mut takers)?;
+    let (doorsteps, waker) = open_doors(rt, alloc, settings, pipes, &mut takers)?;
     let address = SocketAddr::from((settings.bind, doorsteps.port));
     check_descriptors(rt, alloc, address, takers)?;
-    let (hall, doors) = Hall::new(rt, alloc, &*settings, config, waker)?;
+    let (hall, doors) = Hall::new(rt, alloc, settings, config, waker)?;
     let mut hall = boxed(alloc, hall)?;
     let entrance = furnish(
         &mut *hall,
@@ -140,7 +139,7 @@ pub(crate) fn prepare<'a, R: Host>(
         Box::into_inner(doorsteps),
         Box::into_inner(counter),
         doors,
-        (&*settings, config),
+        (settings, config),
     );
     Ok((hall, boxed(alloc, entrance)?))
 }

@@ -94,8 +94,7 @@ fn open_spool<E: HouseLedger>(
     Ok((opened.spool, roles))
 }
 
-/// What a server is to be.
-#[derive(Drop)]
+/// What a server is to be. It goes to `serve`, and is let go there.
 pub struct Plan<'a> {
     pub config: Config,
     pub settings: Settings<'a>,
@@ -139,12 +138,14 @@ where
 {
     let Plan {
         config,
-        settings,
+        mut settings,
         counter,
     } = plan;
     let seats = sessions_of(&settings) + OTHERS;
     warn_of(rt, &settings, &config);
-    let (hall, entrance) = match prepare(rt, alloc, settings, &config, counter) {
+    let prepared = prepare(rt, alloc, &mut settings, &config, counter);
+    settings.let_go();
+    let (hall, entrance) = match prepared {
         Ok(prepared) => prepared,
         Err(StartFault::Memory) => return Err(ServerFault::Memory),
         Err(StartFault::Opening(opening)) => return Err(ServerFault::Opening(opening)),

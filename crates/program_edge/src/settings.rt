@@ -113,6 +113,9 @@ pub struct Settings<'a> {
 }
 
 impl<'a> Settings<'a> {
+    /// Lets go of all that they hold. To whoever calls it that is one call; at the end of a scope it is one for each part.
+    pub fn let_go(self) {}
+
     /// A server at this port of 127.0.0.1, for this computer's own clients, with 8 sessions and the
     /// printers' files in the directory `.`, of which nothing else is said.
     pub fn new(alloc: Global, port: u16) -> Settings<'a>

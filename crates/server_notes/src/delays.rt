@@ -7,7 +7,7 @@
 //!      +------------- an octet of the page goes, or its job is left ------------------------------+
 //! ```
 
-ghost use Rattle.std.specs.Prelude.{◌≡◌, ◌↔◌, ◌≤◌, IsTrue};
+ghost use Rattle.std.specs.Prelude.{◌≡◌, ◌↔◌, ◌<◌, ◌≤◌, ◌+◌, ◌-◌, ◌^◌, None, IsTrue, MatchOption, Some, min};
 ghost use Rattle.server_notes.specs.Standing.{minutes_until, shown_after};
 
 use crate::standstills::minutes_until;
@@ -65,6 +65,37 @@ impl Delay {
         shown_after(self.cause) <= seconds
     }
 
+    /// What it is once it is noted at a moment, for a cause: since then, where nothing was noted before.
+    fn noted(before: Option<Delay>, cause: DelayCause, now: Instant) -> Delay
+        ensures cause { result.cause ≡ cause }
+        ensures begins { before ≡ None → (result.since ≡ now) × (result.told ≡ 0) }
+        ensures goes_on { (delay : _) → before ≡ Some delay
+            → (result.since ≡ delay.since) × (result.told ≡ delay.told) }
+    {
+        match before {
+            Some(delay) => Delay { cause, ..delay },
+            None => Delay {
+                since: now,
+                cause,
+                told: 0,
+            },
+        }
+    }
+
+    /// What it is once it was told, where it is due to be after so many minutes.
+    fn told_when_due(self, minutes: u64) -> Option<Delay>
+        ensures { MatchOption result (minutes < minutes_until self.told)
+            (λ again. (minutes_until self.told ≤ minutes)
+                × (again.told ≡ min (self.told + 1) (2 ^ 32 - 1))
+                × (again.since ≡ self.since) × (again.cause ≡ self.cause)) }
+    {
+        if !self.is_due(minutes) {
+            return None;
+        }
+        let told = self.told.saturating_add(1);
+        Some(Delay { told, ..self })
+    }
+
     /// Whether it is due to be told, after this many minutes.
     fn is_due(&self, minutes: u64) -> bool
         ensures { IsTrue result ↔ minutes_until self.now.told ≤ minutes }
@@ -99,23 +130,11 @@ impl Delays {
     pub fn note<R: Clock + Wait>(&self, rt: &R, printer: u32, cause: DelayCause) -> Option<u64> {
         let now = Instant::now(rt).ok()?;
         let mut place = self.place(printer)?.lock(rt);
-        let delay = match *place {
-            Some(delay) => Delay { cause, ..delay },
-            None => Delay {
-                since: now,
-                cause,
-                told: 0,
-            },
-        };
+        let delay = Delay::noted(*place, cause, now);
         let minutes = now.saturating_duration_since(delay.since).as_secs() / 60;
-        let is_due = delay.is_due(minutes);
-        let told = if is_due {
-            delay.told.saturating_add(1)
-        } else {
-            delay.told
-        };
-        *place = Some(Delay { told, ..delay });
-        is_due.then_some(minutes)
+        let told = delay.told_when_due(minutes);
+        *place = Some(told.unwrap_or(delay));
+        told.map(|_| minutes)
     }
 
     /// An octet of a printer's page has gone, or its job was left.

@@ -10,7 +10,7 @@
 //!
 //! The pauses are 5, 10, 20, 40, 60, 60 .. seconds.
 
-ghost use Rattle.std.specs.Prelude.{◌≡◌, ◌+◌, ◌-◌, ◌^◌, min};
+ghost use Rattle.std.specs.Prelude.{◌≡◌, ◌≢◌, ◌+◌, ◌-◌, ◌^◌, None, Some, min};
 ghost use Rattle.server_notes.specs.Standing.{pause_before};
 
 use std::alloc::{AllocError, Global};
@@ -48,6 +48,39 @@ struct PutOff {
 }
 
 impl PutOff {
+    /// What it is once it is tried with the job in this file, at a moment: since then, where that job wasn't tried before.
+    fn tried(before: Option<PutOff>, file: u64, now: Instant) -> PutOff
+        ensures file { result.file ≡ file }
+        ensures due { result.due ≡ None }
+        ensures begins { before ≡ None → (result.first ≡ now) × (result.pauses ≡ 0) }
+        ensures same { (was : _) → before ≡ Some was → was.file ≡ file
+            → (result.first ≡ was.first) × (result.pauses ≡ was.pauses) }
+        ensures other { (was : _) → before ≡ Some was → was.file ≢ file
+            → (result.first ≡ now) × (result.pauses ≡ was.pauses) }
+    {
+        let (first, pauses) = match before {
+            Some(put_off) if put_off.file == file => (put_off.first, put_off.pauses),
+            Some(put_off) => (now, put_off.pauses),
+            None => (now, 0),
+        };
+        PutOff {
+            file,
+            first,
+            pauses,
+            due: None,
+        }
+    }
+
+    /// What it is once it is tried again.
+    fn again(self) -> PutOff
+        ensures due { result.due ≡ None }
+        ensures pauses { result.pauses ≡ self.pauses }
+        ensures first { result.first ≡ self.first }
+        ensures file { result.file ≡ self.file }
+    {
+        PutOff { due: None, ..self }
+    }
+
     /// What it is once it gave its job back once more, until this moment.
     fn once_more(self, due: Option<Instant>) -> PutOff
         ensures pauses { result.pauses ≡ min (self.pauses + 1) (2 ^ 32 - 1) }
@@ -88,18 +121,9 @@ impl PutOffs {
     pub fn first_try<R: Clock + Wait>(&self, rt: &R, printer: u32, file: u64) -> Option<Instant> {
         let now = Instant::now(rt).ok()?;
         let mut place = self.place(printer)?.lock(rt);
-        let (first, pauses) = match *place {
-            Some(put_off) if put_off.file == file => (put_off.first, put_off.pauses),
-            Some(put_off) => (now, put_off.pauses),
-            None => (now, 0),
-        };
-        *place = Some(PutOff {
-            file,
-            first,
-            pauses,
-            due: None,
-        });
-        Some(first)
+        let put_off = PutOff::tried(*place, file, now);
+        *place = Some(put_off);
+        Some(put_off.first)
     }
 
     /// A printer's job was put back. For how many seconds it isn't tried, where that is known.
@@ -148,10 +172,7 @@ impl PutOffs {
         if !put_off.due.is_some_and(|due| due <= now) {
             return false;
         }
-        *place = Some(PutOff {
-            due: None,
-            ..put_off
-        });
+        *place = Some(put_off.again());
         true
     }
 

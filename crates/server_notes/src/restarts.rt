@@ -3,7 +3,7 @@
 //! A start comes N seconds after the last failure. Where the first job after it fails before a page is written, the time to the next
 //! start is twice as long, up to ten minutes, until a page is written.
 
-ghost use Rattle.std.specs.Prelude.{◌≡◌, ◌+◌, ◌-◌, ◌^◌, false, min, true};
+ghost use Rattle.std.specs.Prelude.{◌≡◌, ◌+◌, ◌-◌, ◌^◌, None, false, min, true};
 ghost use Rattle.server_notes.specs.Restarting.{longer};
 
 use std::alloc::{AllocError, Global};
@@ -79,6 +79,60 @@ struct FailingQueue {
     failed_at: Option<Instant>,
 }
 
+impl FailingQueue {
+    /// A printer of it stands still since a moment, and a job has failed or, where none is lost, had ended before.
+    fn failed(self, is_lost: bool, failed_at: Option<Instant>) -> FailingQueue
+        ensures since { result.failed_at ≡ failed_at }
+        ensures lost { is_lost ≡ true
+            → result.failures.lost ≡ min (self.failures.lost + 1) (2 ^ 64 - 1) }
+        ensures anew { is_lost ≡ true → self.failures.is_tried ≡ false
+            → result.failures.seconds ≡ self.failures.seconds }
+        ensures in_vain { is_lost ≡ true → self.failures.is_tried ≡ true
+            → result.failures.seconds ≡ longer self.failures.seconds }
+        ensures untried { is_lost ≡ true → result.failures.is_tried ≡ false }
+        ensures none_lost { is_lost ≡ false → result.failures ≡ self.failures }
+    {
+        let failures = if is_lost {
+            self.failures.and_one()
+        } else {
+            self.failures
+        };
+        FailingQueue {
+            failures,
+            failed_at,
+        }
+    }
+
+    /// A page of it was written. The first start comes N seconds after a failure.
+    fn printed(self, first_seconds: u64) -> FailingQueue
+        ensures since { result.failed_at ≡ self.failed_at }
+        ensures seconds { result.failures.seconds ≡ first_seconds }
+        ensures lost { result.failures.lost ≡ 0 }
+        ensures untried { result.failures.is_tried ≡ false }
+    {
+        FailingQueue {
+            failures: Failures::none(first_seconds),
+            ..self
+        }
+    }
+
+    /// It is started again.
+    fn started(self) -> FailingQueue
+        ensures since { result.failed_at ≡ None }
+        ensures seconds { result.failures.seconds ≡ self.failures.seconds }
+        ensures lost { result.failures.lost ≡ self.failures.lost }
+        ensures tried { result.failures.is_tried ≡ true }
+    {
+        FailingQueue {
+            failures: Failures {
+                is_tried: true,
+                ..self.failures
+            },
+            failed_at: None,
+        }
+    }
+}
+
 /// The queues of a server whose printers failed, where these are started again.
 #[derive(Drop)]
 pub struct Restarts {
@@ -120,23 +174,15 @@ impl Restarts {
     pub fn note_failure<R: Clock + Wait>(&self, rt: &R, queue: u32, is_lost: bool) {
         if let Some(row) = self.row(queue) {
             let mut row = row.lock(rt);
-            let failures = if is_lost {
-                row.failures.and_one()
-            } else {
-                row.failures
-            };
-            let failed_at = Instant::now(rt).ok();
-            *row = FailingQueue {
-                failures,
-                failed_at,
-            };
+            *row = row.failed(is_lost, Instant::now(rt).ok());
         }
     }
 
     /// A page of a queue was written.
     pub fn note_page<R: Wait>(&self, rt: &R, queue: u32) {
         if let Some(row) = self.row(queue) {
-            row.lock(rt).failures = Failures::none(self.first_seconds);
+            let mut row = row.lock(rt);
+            *row = row.printed(self.first_seconds);
         }
     }
 
@@ -148,13 +194,7 @@ impl Restarts {
         if waited < failures.seconds {
             return None;
         }
-        *row = FailingQueue {
-            failures: Failures {
-                is_tried: true,
-                ..failures
-            },
-            failed_at: None,
-        };
+        *row = row.started();
         Some(failures)
     }
 }

@@ -1,6 +1,6 @@
 //! Printers that stand still: since when, and why.
 
-ghost use Rattle.std.specs.Prelude.{◌≡◌, ◌↔◌, ◌≤◌, IsTrue};
+ghost use Rattle.std.specs.Prelude.{◌≡◌, ◌↔◌, ◌<◌, ◌≤◌, ◌+◌, ◌-◌, ◌^◌, IsTrue, MatchOption, min};
 ghost use Rattle.server_notes.specs.Standing.{minutes_until};
 
 use std::alloc::{AllocError, Global};
@@ -36,6 +36,20 @@ impl Standstill {
         ensures { IsTrue result ↔ minutes_until self.now.told ≤ minutes }
     {
         minutes_until(self.told) <= minutes
+    }
+
+    /// What it is once it was told, where it is due to be after so many minutes.
+    fn told_when_due(self, minutes: u64) -> Option<Standstill>
+        ensures { MatchOption result (minutes < minutes_until self.told)
+            (λ again. (minutes_until self.told ≤ minutes)
+                × (again.told ≡ min (self.told + 1) (2 ^ 32 - 1))
+                × (again.since ≡ self.since) × (again.cause ≡ self.cause)) }
+    {
+        if !self.is_due(minutes) {
+            return None;
+        }
+        let told = self.told.saturating_add(1);
+        Some(Standstill { told, ..self })
     }
 }
 
@@ -86,11 +100,7 @@ impl Standstills {
         let mut place = self.place(printer)?.lock(rt);
         let standstill = (*place)?;
         let minutes = now.saturating_duration_since(standstill.since).as_secs() / 60;
-        if !standstill.is_due(minutes) {
-            return None;
-        }
-        let told = standstill.told.saturating_add(1);
-        *place = Some(Standstill { told, ..standstill });
+        *place = Some(standstill.told_when_due(minutes)?);
         Some(standstill)
     }
 }

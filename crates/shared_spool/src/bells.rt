@@ -11,7 +11,6 @@ use std::sync::Condvar;
 use std::sync::ledger::Ledger;
 
 /// The bells of the seats, and the printers of each queue.
-#[derive(Drop)]
 pub(crate) struct Bells {
     // By the printers' numbers. None has the number 0.
     printers: Vec<Condvar>,
@@ -24,6 +23,20 @@ pub(crate) struct Bells {
     // The printers of the queue that each printer serves, by its number. None has the number 0.
     rows: Vec<Row>,
     all: Row,
+}
+
+// Written out: each place that lets them go is then one call, and not the drops of all that they hold.
+impl Drop for Bells {
+    fn drop(self) {
+        let Bells {
+            printers: _,
+            sessions: _,
+            rotates: _,
+            queues: _,
+            rows: _,
+            all: _,
+        } = self;
+    }
 }
 
 /// The printers of each queue of a configuration, and all of them for 0.
