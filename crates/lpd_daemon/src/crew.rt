@@ -22,6 +22,7 @@ use server_house::{
     Host, House, HouseLedger, HouseSeat, PrintingSeat, Roles, Seats, ServerFault, serves_at,
 };
 use server_printers::Printing;
+use server_start::{join_all, keep};
 use server_watcher::watch;
 use std::alloc::Global;
 use std::fs::{File, Files};
@@ -29,7 +30,7 @@ use std::net::{Net, TcpListener, TcpStream};
 use std::rt::Clock;
 use std::sync::Wait;
 use std::thread;
-use std::thread::{JoinHandle, Scope, SpawnError, Threads};
+use std::thread::{JoinHandle, Scope, Threads};
 
 /// Threads that were started, most of which give their seats back.
 #[derive(Drop)]
@@ -66,21 +67,6 @@ pub(crate) struct Entrance {
 pub(crate) struct Returned<E: HouseLedger> {
     pub(crate) seats: Seats<E>,
     pub(crate) counter: Option<Counter>,
-}
-
-/// Joins all threads, and keeps what they returned. What there is no memory for is let go.
-fn join_all<R: Threads, T: Drop>(rt: &R, threads: Vec<JoinHandle<T>>, returned: &mut Vec<T>) {
-    for thread in threads {
-        let _ = returned.push(thread.join(rt));
-    }
-}
-
-/// Keeps a thread to be joined. False where it wasn't started, or memory for its handle is refused.
-fn keep<T: Drop, F: Drop>(
-    threads: &mut Vec<JoinHandle<T>>,
-    started: Result<JoinHandle<T>, SpawnError<F>>,
-) -> bool {
-    started.is_ok_and(|thread| threads.push(thread).is_ok())
 }
 
 /// Closes the spool once nothing is left to do, or nothing is waited for any more: who looks after it or at it ends.

@@ -1,98 +1,25 @@
 //! A server, from its start to its end.
 
-ghost use Rattle.std.specs.Prelude.{◌≡◌, ◌≤◌, ◌+◌, ℕ, Ok, OnOk, IfErr};
+ghost use Rattle.std.specs.Prelude.{◌≡◌, OnOk, IfErr};
 ghost use Rattle.server_house.specs.Faults.{IsRunningFault, write_faults};
-ghost use Rattle.server_house.specs.Lines.{IsQuiet, WritesAll, line_octets};
-ghost use Rattle.server_house.specs.declared.faults.ServerFault.TheVariants.{Memory};
-ghost use Rattle.server_house.specs.declared.lines.PrintedLine.TheVariants.{Closed};
-ghost use Rattle.lpd_commands.specs.Ends.{Writes};
+ghost use Rattle.server_house.specs.Lines.{IsQuiet, WritesAll};
 ghost use Rattle.spool_ledgers.specs.Blanks.{AreFor, mark};
 
 use crate::crew::{Entrance, Returned, work};
 use crate::preparing::prepare;
 use config_values::Config;
-use log::Log;
 use lpd_commands::OctetWrite;
 use program_edge::{Settings, StartFault};
 use server_care::Counter;
 use server_commands::end_answer;
 use server_house::{
-    Hall, Host, House, HouseLedger, HouseSpool, OTHERS, PrintedLine, Roles, Seats, ServerFault,
+    Hall, Host, House, HouseLedger, HouseSpool, OTHERS, PrintedLine, Roles, ServerFault,
     print_or_tell, sessions_of,
 };
-use server_start::warn_of;
-use shared_spool::{Blanks, Segment};
-use std::alloc::{AllocError, Global};
-use std::fs::{File, Files};
+use server_start::{Stock, finish, open_spool, warn_of};
+use shared_spool::Blanks;
+use std::alloc::Global;
 use std::marker::Brand;
-use std::rt::Clock;
-use std::sync::Wait;
-
-/// How many entries this segment and those before it have.
-fn entries_until(segment: &Segment) -> u64 {
-    let entries = segment.entries.len() as u64;
-    segment.before.saturating_add(entries)
-}
-
-/// Takes all seats back, and prints how many entries all segments of the account have, where all
-/// was well until now. Where the account's segments become files, those that are left do so before.
-///
-/// Output where the line can't be written, which is logged; Memory where a seat or memory for the
-/// line is missing.
-fn finish<R: Files<File = File> + Clock + Log + Wait, E: HouseLedger, W: OctetWrite>(
-    hall: &Hall<'_, R>,
-    spool: HouseSpool<E>,
-    seats: Seats<E>,
-    told: Result<(), ServerFault>,
-    output: &mut W,
-) -> Result<(), ServerFault>
-    ensures before { OnOk result (told ≡ Ok tt) }
-    ensures written { OnOk result ((entries : ℕ)
-        × Writes (W.written output.old) (W.written output.new) (line_octets (Closed entries))) }
-    ensures write_fault { (n : ℕ) → W.faults output.old ≡ write_faults n told
-        → W.faults output.new ≡ write_faults n result }
-    ensures fault { IfErr told IsRunningFault → IfErr result IsRunningFault }
-{
-    let last = spool.finish(seats.sessions, seats.printers).ok();
-    let entries = last.as_ref().map(entries_until);
-    if let Some(archive) = &hall.archive {
-        archive.end(hall.rt, last);
-    }
-    told?;
-    let Some(entries) = entries else {
-        return Err(ServerFault::Memory);
-    };
-    print_or_tell(hall.rt, hall.alloc, output, PrintedLine::Closed { entries })
-}
-
-/// What a spool is made of.
-#[derive(Drop)]
-struct Stock {
-    config: Config,
-    blanks: Blanks,
-    /// How many seats it has beside those of its printers.
-    seats: u32,
-}
-
-/// A spool of this, and who gets which seat. Memory where memory is refused, or a seat is missing.
-fn open_spool<E: HouseLedger>(
-    alloc: Global,
-    stock: Stock,
-) -> Result<(HouseSpool<E>, Roles<E>), ServerFault>
-    requires { AreFor stock.blanks stock.config stock.seats E.config (mark E.name E.parts)
-        (mark E.kinds E.parts) (mark E.handed E.parts) }
-    ensures { IfErr result (λ fault. fault ≡ Memory) }
-{
-    let Stock {
-        config,
-        blanks,
-        seats,
-    } = stock;
-    let opened = HouseSpool::<E>::new(alloc, blanks, config, seats);
-    let opened = opened.map_err(AllocError::from)?;
-    let roles = Roles::deal(opened.sessions, opened.printers)?;
-    Ok((opened.spool, roles))
-}
 
 /// What a server is to be. It goes to `serve`, and is let go there.
 pub struct Plan<'a> {

@@ -86,8 +86,8 @@ impl Delay {
     fn told_when_due(self, minutes: u64) -> Option<Delay>
         ensures { MatchOption result (minutes < minutes_until self.told)
             (λ again. (minutes_until self.told ≤ minutes)
-                × (again.told ≡ min (self.told + 1) (2 ^ 32 - 1))
-                × (again.since ≡ self.since) × (again.cause ≡ self.cause)) }
+            × (again.told ≡ min (self.told + 1) (2 ^ 32 - 1))
+            × (again.since ≡ self.since) × (again.cause ≡ self.cause)) }
     {
         if !self.is_due(minutes) {
             return None;

@@ -42,8 +42,8 @@ impl Standstill {
     fn told_when_due(self, minutes: u64) -> Option<Standstill>
         ensures { MatchOption result (minutes < minutes_until self.told)
             (λ again. (minutes_until self.told ≤ minutes)
-                × (again.told ≡ min (self.told + 1) (2 ^ 32 - 1))
-                × (again.since ≡ self.since) × (again.cause ≡ self.cause)) }
+            × (again.told ≡ min (self.told + 1) (2 ^ 32 - 1))
+            × (again.since ≡ self.since) × (again.cause ≡ self.cause)) }
     {
         if !self.is_due(minutes) {
             return None;
