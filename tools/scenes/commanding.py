@@ -81,6 +81,83 @@ def the_earlier_stop_holds():
     return f"after {seen[0]:.1f} and {seen[1]:.1f} s"
 
 
+def end_of(room, limit=20):
+    """The server has ended: what it said behind its first line, and its log."""
+    check(room.server.wait(limit) == 0, f"{room.server.returncode}: {room.log()[-300:]}")
+    return open(f"{room.folder}/said").read().split("\n", 1)[1], room.log()
+
+
+@contextlib.contextmanager
+def waiting(room, *words):
+    """A command to the server's control socket, which isn't waited for: it may last until it is gone."""
+    asked = command(room, *words)
+    try:
+        yield asked
+    finally:
+        asked.kill()
+        asked.wait()
+
+
+class Unread:
+    """A printer at a port that takes connections, and reads nothing of them before it is told to. It keeps what it reads."""
+
+    def __init__(self):
+        self.there = socket.socket()
+        self.there.setsockopt(socket.SOL_SOCKET, socket.SO_RCVBUF, 4096)
+        self.there.bind(("127.0.0.1", 0))
+        self.there.listen(4)
+        self.place = f"socket://127.0.0.1:{self.there.getsockname()[1]}"
+        self.reads, self.octets = threading.Event(), b""
+        threading.Thread(target=self.serve, daemon=True).start()
+
+    def serve(self):
+        with contextlib.suppress(OSError):
+            while True:
+                peer, _ = self.there.accept()
+                self.reads.wait()
+                while piece := peer.recv(1 << 16):
+                    self.octets += piece
+                peer.close()
+
+
+def stops_wait_for_what_is_printed():
+    """A stop waits for a job that is amid a printer on the network, where no pipe is full; and for what is in a pipe, where no job is held any more. Nothing is lost, and a
+    rotation that is done meanwhile is printed before the close."""
+    printer, octets = Unread(), b"x" * 6_000_000
+    config = CONFIG.replace("pages = 256", "pages = 4096").replace("limit = 128", "limit = 2000")
+    with Room("--printer", f"1={printer.place}", config=config) as room:
+        # (without --spool, where a job stays for the next server)
+        plain = [word for word in room.line() if word not in ("--spool", room.kept)]
+        room.line = lambda: plain
+        room.start()
+        check(send(room.port, 1, octets, limit=60) == 0, "a job is taken")
+        with waiting(room, "stop") as asked:
+            time.sleep(1.5)
+            check(asked.poll() is None and room.server.poll() is None, f"it has ended amid a job: {room.log()[-300:]}")
+            check("\njob 1 " in room.tell("status"), "the job is held no more")
+            printer.reads.set()
+            said, log = end_of(room, 60)
+        check(printer.octets == octets, f"{len(printer.octets)} octets came")
+        check(re.fullmatch(r"closed entries \d+\n", said) and "lost" not in log, f"{said}: {log[-300:]}")
+    with Room() as room:
+        os.mkfifo(f"{room.folder}/printer-1")
+        room.start()
+        check(send(room.port, 1, b"y" * 1000) == 0, "a job is taken")
+        room.await_files(0)
+        with waiting(room, "stop") as asked:
+            time.sleep(1.5)
+            check(asked.poll() is None and room.server.poll() is None, "it has ended while a pipe has octets")
+            told = room.tell("status")
+            check("\njob " not in told, told)
+            check(room.tell("rotate").startswith("rotated"), "it isn't rotated")
+            with open(f"{room.folder}/printer-1", "rb") as pipe:
+                printed = pipe.read()
+            said, log = end_of(room)
+        check(printed == b"y" * 1000, f"{len(printed)} octets of the pipe")
+        check(re.fullmatch(r"rotated 1 entries \d+\nclosed entries \d+\n", said), said)
+    return "for a job and for a pipe; a rotation is printed before the close"
+
+
 def rotations_that_are_refused():
     """A rotation that is refused, since a job is held, gives its place back: after many of them, with an account in files, the next that may be done is."""
     with Room() as room:
@@ -405,7 +482,8 @@ def many_syncs_wake_each():
         return f"{took:.1f} s"
 
 
-SCENES = (signals_that_stop, the_earlier_stop_holds, rotations_that_are_refused, rotations_after_connections_that_are_refused, a_rotation_is_printed_at_once, segments_that_wait, who_asked_and_went_gives_place, clients_that_end_their_sending, commands_that_wait, descriptors_that_come_again,
+SCENES = (signals_that_stop, the_earlier_stop_holds, stops_wait_for_what_is_printed, rotations_that_are_refused, rotations_after_connections_that_are_refused,
+          a_rotation_is_printed_at_once, segments_that_wait, who_asked_and_went_gives_place, clients_that_end_their_sending, commands_that_wait, descriptors_that_come_again,
           no_octet_behind_a_stop_now, pauses_begin_anew_behind_a_page, many_syncs_wake_each)
 
 if __name__ == "__main__":

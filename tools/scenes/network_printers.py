@@ -167,6 +167,38 @@ def resets_are_ends():
     return f"the next job's connection ended {came[4][1] - came[3][1]:.2f} s later"
 
 
+class Halting(Printer):
+    """A printer that takes each connection and reads nothing of it, so that a large job halts amid its octets."""
+
+    def __init__(self):
+        super().__init__(at_once, is_on=False)
+        self.socket.setsockopt(socket.SOL_SOCKET, socket.SO_RCVBUF, 4096)
+        self.turn_on()
+
+    def serve(self, peer, place):
+        self.left.append(peer)
+
+
+def silence_is_not_patience():
+    """Of printers that take nothing amid a job one fails it after the seconds of `--printer-silence`, and no sooner; and where that isn't said the minutes of `--patience`
+    fail none, nor are they seconds."""
+    much, config = b"x" * 6_000_000, spool(pages=2048, limit=2000, account=4_000_000)
+    for words, fails in ((["--printer-silence", "3", "--patience", "1"], True), (["--patience", "1"], False), (["--printer-silence", "60", "--patience", "1"], False)):
+        printer = Halting()
+        with Server(PROGRAM, config, "--printer", f"1={printer.place}", "--log-jobs", *words) as it:
+            start = time.monotonic()
+            check(send(it.port, 1, much, limit=60) == 0, "the job isn't taken")
+            until(20, lambda: printer.left)
+            if fails:
+                until(60, lambda: " failed in " in it.log())
+                took = time.monotonic() - start
+                check(took > 2.5, f"it failed after {took:.1f} s")
+                continue
+            time.sleep(5)
+            check(" failed in " not in it.log() and b"jobs 1 printers 1 stopped 0" in state(it.port)[0], f"{words}: {it.log()}")
+    return f"one job failed after {took:.1f} s, and two didn't"
+
+
 def a_removed_job_stops_no_queue():
     """Of a printer that is off a user removes the job that waits for it: the queue goes on by itself, so the next job of another user is printed once
     the printer is on, and nobody has to start it. A printer that stands still for a cause of its own isn't started: its disk is full."""
@@ -189,4 +221,4 @@ def a_removed_job_stops_no_queue():
 
 
 if __name__ == "__main__":
-    sys.exit(main([a_printed_job_is_done, resets_are_ends, a_removed_job_stops_no_queue], __doc__))
+    sys.exit(main([a_printed_job_is_done, resets_are_ends, silence_is_not_patience, a_removed_job_stops_no_queue], __doc__))

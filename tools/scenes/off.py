@@ -14,7 +14,7 @@ import subprocess
 import threading
 import time
 
-from client import answer, connect, free_port
+from client import answer, begin, connect, finish, free_port
 from parking import QUEUES, Flood, Room, check_order, config, jobs_in, lines_of, send, job
 from scene import CHECKED, SHORT, check, main, size
 from trimming import files, told
@@ -338,16 +338,29 @@ def stops_beside_a_printer_that_is_off():
 
 def a_queue_that_is_held_amid_a_job():
     """A queue is held while a job of it is at its printer and others are behind it: the one goes on, the others leave the spool; released, all are printed in
-    order."""
+    order. So is a job that was coming as its queue was held: it isn't printed before."""
     with Room(config(queues=2, pages=256, jobs=16, account=100_000, limit=80)) as room:
         os.mkfifo(room.path(1))
         room.start()
         for number, lines in enumerate((8_000, 20, 20, 20)):
             check(send(room.port, number, job("q1", 0, number, lines), "q1", "127.0.0.9") == 0, f"job {number} isn't taken")
         await_status(room, "prints 1 place ")
+        coming = begin(room.port, 9, 5_000, b"x" * 3_000, "q2", "127.0.0.8")
+        await_status(room, "\njob 5 q2 ")
         room.tell("hold", "q1")
+        room.tell("hold", "q2")
         told = await_status(room, "kept waiting 3 failed 0")
-        check(told.count("\njob ") == 1, f"not the job at the printer alone is in the spool: {told}")
+        check(told.count("\njob ") == 2, f"not the job at the printer and that which comes are in the spool: {told}")
+        time.sleep(1.5)
+        check(re.findall(r"^queue .*$", told := room.tell("status"), re.MULTILINE) == ["queue q1 held", "queue q2 held"], f"not both are held: {told}")
+        check(finish(coming, 9, b"y" * 2_000) == 0, "the job that comes isn't taken")
+        coming.close()
+        await_status(room, "kept waiting 4 failed 0")
+        time.sleep(1)
+        check(not room.printed(2), f"{len(room.printed(2))} octets of a held queue are printed")
+        room.tell("release", "q2")
+        room.await_files(4, 20)
+        check(room.printed(2) == b"x" * 3_000 + b"y" * 2_000, f"{len(room.printed(2))} octets are printed")
         seen = []
         reading = threading.Thread(target=lambda: seen.append(subprocess.run(["timeout", "60", "cat", room.path(1)], capture_output=True).stdout), daemon=True)
         reading.start()

@@ -488,6 +488,87 @@ def removals_amid_feeding():
     return f"{count} jobs, {len(seen)} printed; what was told: {told}"
 
 
+class Fed(Room):
+    """A server that has begun to feed a large job, which waited in the folder as file 1."""
+
+    def __init__(self):
+        super().__init__(config(queues=1, pages=16_384, page=512, account=8_000_000, limit=16_384), "--log-jobs")
+        self.octets = job("q1", 0, 1, 400_000)[:12_000 * 512]
+
+    def feed(self):
+        self.start()
+        self.tell("hold", "q1")
+        check(send(self.port, 1, self.octets, "q1") == 0, "the job isn't taken")
+        self.tell("release", "q1")
+        until = time.monotonic() + 30
+        while not re.search(r"^job 1 q1 \S+ - - receiving .* of 12000 pages came$", told := self.answered("status"), re.MULTILINE):
+            check(time.monotonic() < until, f"it isn't seen while it is fed: {told}\n{self.log()[-400:]}")
+
+    def answered(self, line):
+        """What is answered at the control socket, as soon as can be."""
+        with socket.socket(socket.AF_UNIX) as peer:
+            peer.settimeout(30)
+            peer.connect(self.control)
+            peer.sendall(f"{line}\n".encode())
+            told = b""
+            while piece := peer.recv(65536):
+                told += piece
+        return told.decode()
+
+
+def removed_while_it_is_fed():
+    """A job is removed by its file while it is fed: it is told as removed and not as failed, its file goes, and it can't be sent again. The next one is printed."""
+    with Fed() as room:
+        # (its printer is a pipe that nobody reads: so it isn't done before it is removed)
+        os.mkfifo(room.path(1))
+        pipe = os.open(room.path(1), os.O_RDWR | os.O_NONBLOCK)
+        room.feed()
+        said = room.answered("cancel file 1")
+        check(said.startswith("removed file 1 (001) ann@h1 of q1\n"), said)
+        until = time.monotonic() + 30
+        while not (ends := re.findall(r" job 1 q1 .* (\w+) in [\d.]+ s file 1$", room.log().replace(" received in ", " "), re.MULTILINE)):
+            check(time.monotonic() < until, f"its end isn't told: {room.log()[-400:]}")
+            time.sleep(0.05)
+        check(ends == ["removed"], ends)
+        until = time.monotonic() + 30
+        while os.path.exists(f"{room.kept}/1.job"):
+            check(time.monotonic() < until, "its file stays")
+            time.sleep(0.05)
+        check(send(room.port, 2, job("q1", 0, 2), "q1") == 0, "the next job isn't taken")
+        printed, until = b"", time.monotonic() + 30
+        while room.files():
+            check(time.monotonic() < until, f"{room.files()}: {room.log()[-400:]}")
+            with contextlib.suppress(BlockingIOError):
+                printed += os.read(pipe, 1 << 20)
+            time.sleep(0.02)
+        with contextlib.suppress(BlockingIOError):
+            printed += os.read(pipe, 1 << 20)
+        os.close(pipe)
+        check(not room.files("failed"), f"{room.files('failed')}")
+        told = room.tell("status")
+        check("kept waiting 0 failed 0\n" in told and "\njob " not in told, told)
+        check("resent" not in (said := room.tell("resend", "1")), said)
+        check(printed.endswith(job("q1", 0, 2)) and room.octets.startswith(printed[:-len(job("q1", 0, 2))]), f"{len(printed)} octets are printed")
+    return "told as removed, and no file is left"
+
+
+def stopped_while_it_is_fed():
+    """A server is stopped at once while a job is fed: nothing is said of that job but that it waits, its file stays, and the next server prints it."""
+    with Fed() as room:
+        room.feed()
+        told = room.answered("stop now")
+        room.server.wait(30)
+        check([os.path.basename(path) for path in room.files()] == ["1.job"] and not room.files("failed"), f"{room.files()} {room.files('failed')}")
+        check("isn't printed" not in room.log() and " is lost" not in room.log(), room.log()[-600:])
+        check(" received in " in room.log() or not room.printed(1), f"{len(room.printed(1))} octets are printed")
+        os.truncate(room.path(1), 0)
+        room.start()
+        room.await_files(0, 60)
+        check(room.printed(1) == room.octets, f"{len(room.printed(1))} octets are printed of {len(room.octets)}")
+        check("isn't printed" not in room.log(), room.log()[-600:])
+    return f"{told.strip()!r} is answered, and the next server printed it"
+
+
 def parts_without_a_folder():
     """With `--parts` and no folder: jobs of two held queues and of one whose printer has failed are refused for now beyond their parts; each other one is taken,
     though it has to wait for room in its queue's part, and printed, and so are those of the three that were taken, once these print."""
@@ -632,5 +713,6 @@ def one_queue_holds_up_no_other():
 
 
 if __name__ == "__main__":
-    raise SystemExit(main((a_queue_is_held, holds_outlive_a_restart, removed_while_they_wait, a_job_that_comes_before_all_are_read, removals_amid_feeding, refused_as_any_other, pages_by_file, a_file_that_is_gone, no_session_waits,
+    raise SystemExit(main((a_queue_is_held, holds_outlive_a_restart, removed_while_they_wait, a_job_that_comes_before_all_are_read, removals_amid_feeding,
+                           removed_while_it_is_fed, stopped_while_it_is_fed, refused_as_any_other, pages_by_file, a_file_that_is_gone, no_session_waits,
                            one_queue_holds_up_no_other, killed_amid_it, many_wait, parts_without_a_folder, a_site), __doc__))

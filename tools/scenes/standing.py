@@ -313,21 +313,32 @@ def a_removed_job_that_ends():
 
 
 def sessions_stand_oldest_first():
-    """Sessions are told in the order in which they came, whichever seats they have: the first of three goes, and a fourth one gets its seat."""
+    """Sessions are told in the order in which they came, whichever seats they have, each with since when nothing came from it: the first of three goes, and a fourth one gets
+    its seat."""
     with served(spool()) as it:
-        peers = []
+        peers, heard = [], time.monotonic()
         for _ in range(3):
             peers.append(connect(it.port))
             peers[-1].sendall(b"\x02lp\n")
             check(peers[-1].recv(1) == b"\0", "it isn't served")
         peers.pop(0).close()
-        seen = lambda: re.findall(r"^session 127\.0\.0\.1:(\d+) ", ask(it, "status"), re.M)
+        silences = lambda: re.findall(r"^session 127\.0\.0\.1:(\d+) silent (\d+)$", ask(it, "status"), re.M)
+        seen = lambda: [port for port, _ in silences()]
         until(10, "two are left", lambda: len(seen()) == 2)
+        time.sleep(3)
+        begun = time.monotonic()
         peers.append(connect(it.port))
         peers[-1].sendall(b"\x02lp\n")
         check(peers[-1].recv(1) == b"\0", "it isn't served")
         ports = [str(peer.getsockname()[1]) for peer in peers]
         check(seen() == ports, f"{seen()} and not {ports}")
+        silent = [int(seconds) for _, seconds in silences()]
+        now = time.monotonic()
+        check(all(2 <= seconds <= now - heard for seconds in silent[:2]) and silent[2] <= now - begun, f"silent for {silent} s")
+        # (one that says more is silent from then on)
+        peers[0].sendall(b"\x0311 dfA001h1\n")
+        check(peers[0].recv(1) == b"\0", "it isn't served")
+        until(10, "it is silent no more", lambda: int(silences()[0][1]) < int(silences()[1][1]) - 1)
         text = page(it)
         check(text.index(ports[0]) < text.index(ports[1]) < text.index(ports[2]), "the page has another order")
         for peer in peers:

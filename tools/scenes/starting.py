@@ -5,13 +5,15 @@ alone. A line says what was seen; the last line is 'N passed, M failed'."""
 import contextlib
 import os
 import re
+import resource
+import signal
 import socket
 import subprocess
 import sys
 import tempfile
 import time
 
-from client import Server, free_port, spool
+from client import Server, connect, free_port, spool
 from scene import PROGRAM, check, main
 
 
@@ -133,6 +135,120 @@ def a_refusal_tells_what_it_may_mean():
             check(ended == 5 and lines[-1].endswith(("fault 61 Cut", "fault 62 ReadFault")), f"{ended} {lines}")
             check("it may not let this address in" in lines[-2] or "reset by peer" in lines[-2], lines)
     return "5 refusals"
+
+
+# What a server takes descriptors for beside its printer's and its clients', and how many more of them each takes at least.
+TAKERS = {"--spool": 5, "--account": 4, "--control": 4, "--status": 4}
+
+
+@contextlib.contextmanager
+def bounded(takers, most):
+    """A server with a printer and these, which may open no more descriptors than so many. It listens, or has ended."""
+    with tempfile.TemporaryDirectory() as room:
+        with open(f"{room}/spool.toml", "w") as file:
+            file.write(spool(account=100_000, limit=4))
+        port = free_port()
+        words = [word for taker in takers for word in (taker, str(free_port()) if taker == "--status" else f"{room}/{taker[2:]}")]
+        with open(f"{room}/said", "wb") as said, open(f"{room}/log", "wb") as log:
+            process = subprocess.Popen([PROGRAM, "serve", f"{room}/spool.toml", "--port", str(port), "--out", room, "--keep-room", "--sessions", "4", *words],
+                                       stdin=subprocess.DEVNULL, stdout=said, stderr=log, preexec_fn=lambda: resource.setrlimit(resource.RLIMIT_NOFILE, (most, most)))
+        try:
+            until = time.monotonic() + 30
+            while process.poll() is None and "listening" not in open(f"{room}/said").read():
+                check(time.monotonic() < until, "it neither listens nor ends")
+                time.sleep(0.005)
+            yield process, port, open(f"{room}/log").read().splitlines()
+        finally:
+            process.kill()
+            process.wait()
+
+
+def least_of(takers):
+    """How many descriptors a server with these takes at least, as it tells with fewer. With one fewer it tells that too, and with so many it listens."""
+    def told(most):
+        with bounded(takers, most) as (process, port, lines):
+            if process.poll() is None:
+                return None
+            found = re.search(rf"127\.0\.0\.1:{port}: (\d+) descriptors are too few: it takes (\d+)$", lines[-2])
+            check(process.returncode == 4 and (not found or int(found[1]) == most and lines[-1] == "fault 72 Network"), f"{takers}, {most}: {process.returncode} {lines}")
+            return int(found[2]) if found else 0
+
+    for most in range(8, 64):
+        least = told(most)
+        check(least is not None, f"{takers}: it listens with {most}, and told of none")
+        if least:
+            check(least > most and told(least - 1) == least and told(least) is None, f"{takers}: it tells of {least}")
+            return least
+    raise AssertionError(f"{takers}: none is told")
+
+
+def too_few_descriptors_are_told():
+    """A server that may open too few descriptors tells at its start how many it may open, and how many it takes: some for each of what it has."""
+    plain = least_of([])
+    for takers, more in [*(([taker], more) for taker, more in TAKERS.items()), ([*TAKERS], sum(TAKERS.values()))]:
+        check((least := least_of(takers)) == plain + more, f"{takers}: {least}, and {plain} without")
+    return f"{plain} with a printer alone, and {plain + sum(TAKERS.values())} with all"
+
+
+def connections_that_wait_leave_descriptors():
+    """As many connections wait as the limit of descriptors leaves room for: 64 are kept for the program, one for a printer, two for each of four sessions and of two that take no
+    jobs, 81 for a control socket and the printer's pipe, one for each session and eight more for the folder of jobs, 208 for the status. Of one more the oldest is closed."""
+    most, waiting = 450, {}
+    for takers, kept in (([], 77), (["--status"], 77 + 208), (["--control"], 77 + 81), (["--spool"], 77 + 14), (["--spool", "--control", "--status"], 77 + 14 + 81 + 208)):
+        with bounded(takers, most) as (_, port, _), contextlib.ExitStack() as peers:
+            opened = [peers.enter_context(connect(port)) for _ in range(most - kept + 20)]
+            until = time.monotonic() + 20
+            for number, peer in enumerate(opened[:20]):
+                peer.settimeout(max(0.1, until - time.monotonic()))
+                with contextlib.suppress(TimeoutError):
+                    peer.recv(1)
+                    continue
+                raise AssertionError(f"{takers}: connection {number} of {len(opened)} waits")
+            # (whoever is closed wrongly has some time for it)
+            time.sleep(0.3)
+            for number, peer in enumerate(opened[20:]):
+                peer.setblocking(False)
+                with contextlib.suppress(BlockingIOError):
+                    raise AssertionError(f"{takers}: connection {number + 20} is closed: {peer.recv(1)}")
+            waiting[" ".join(takers) or "alone"] = most - kept
+    return f"of {most} descriptors: {waiting}"
+
+
+def a_thread_that_is_not_started():
+    """A server for one of whose threads the system has no room, whichever that is, ends by itself. With all it goes on."""
+    with a_room() as room:
+        with contextlib.suppress(OSError):
+            if subprocess.run(["strace", "-qq", "-o", "/dev/null", "true"], stderr=subprocess.DEVNULL, timeout=30).returncode == 0:
+                return threads_that_are_not_started(room)
+    raise subprocess.CalledProcessError(1, ["strace"])
+
+
+def threads_that_are_not_started(room):
+    control = f"{room}/control"
+    words = ["--spool", f"{room}/kept", "--account", f"{room}/account", "--control", control, "--status", str(free_port()), "--keep-room", "--sessions", "2"]
+    with Server(PROGRAM, spool(account=100_000, limit=4), *words) as it:
+        check(subprocess.run([PROGRAM, "control", control, "status"], stdout=subprocess.DEVNULL, timeout=30).returncode == 0, "it isn't answered")
+        threads = len(os.listdir(f"/proc/{it.process.pid}/task")) - 1
+    for number in range(1, threads + 1):
+        serve = [PROGRAM, "serve", "spool.toml", "--port", str(free_port()), *words]
+        fails = f"inject=clone,clone3:error=EAGAIN:when={number}"
+        with open(f"{room}/faults", "w+b") as faults, open(f"{room}/said", "w+b") as said:
+            process = subprocess.Popen(["strace", "-qq", "-o", "/dev/null", "-e", "trace=clone,clone3", "-e", fails, *serve], cwd=room, stdin=subprocess.DEVNULL,
+                                       stdout=said, stderr=faults, start_new_session=True)
+            try:
+                ended = process.wait(20)
+                faults.seek(0)
+                said.seek(0)
+                told = faults.read().decode().splitlines()[-1:], said.read().decode().splitlines()[-1:]
+                check(ended == 4 and told[0] == ["fault 12 Memory"] or ended == 0 and told[1] == ["closed entries 1"], f"thread {number}: {ended} {told}")
+            except subprocess.TimeoutExpired as error:
+                raise AssertionError(f"without thread {number} of {threads} it goes on") from error
+            finally:
+                # (what is traced goes on where its tracer is killed alone)
+                with contextlib.suppress(ProcessLookupError):
+                    os.killpg(process.pid, signal.SIGKILL)
+                process.wait()
+    return f"each of {threads}"
 
 
 def a_start_warns_of_what_bites_later():
@@ -276,4 +392,5 @@ def printers_are_looked_at():
 
 if __name__ == "__main__":
     sys.exit(main([a_configuration_tells_where_its_fault_is, keys_that_are_none_are_told, sizes_of_a_queue_that_takes_no_job, printers_are_looked_at,
-                   a_pipe_in_the_place_of_a_job, a_start_tells_why_it_failed, a_command_tells_why_it_failed, a_refusal_tells_what_it_may_mean, a_start_warns_of_what_bites_later], __doc__))
+                   a_pipe_in_the_place_of_a_job, a_start_tells_why_it_failed, a_command_tells_why_it_failed, a_refusal_tells_what_it_may_mean, a_start_warns_of_what_bites_later,
+                   too_few_descriptors_are_told, connections_that_wait_leave_descriptors, a_thread_that_is_not_started], __doc__))

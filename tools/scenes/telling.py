@@ -133,18 +133,19 @@ def no_descriptor_is_left():
 
 
 def printers_are_told():
-    """A page that isn't written, a printer that isn't reached, one that is reached again, one that ended none of three connections."""
-    with socket.socket() as off, socket.socket() as keeps:
+    """A page that isn't written, a printer that isn't reached, one that is reached again, one that ended none of three connections, one that still stands after a minute."""
+    with tempfile.TemporaryDirectory() as room, socket.socket() as off, socket.socket() as keeps:
         off.bind(("127.0.0.1", free_port()))
         keeps.bind(("127.0.0.1", free_port()))
         keeps.listen(16)
         places = ["--printer", "full=file:/dev/full", "--printer", "off=socket://127.0.0.1:%d" % off.getsockname()[1],
-                  "--printer", "keeps=socket://127.0.0.1:%d" % keeps.getsockname()[1]]
+                  "--printer", "keeps=socket://127.0.0.1:%d" % keeps.getsockname()[1], "--control", f"{room}/control"]
         with Server(PROGRAM, spool(queues=("full", "off", "keeps")), "--keep-room", *places, printers=3, device=None) as it:
             for queue in ("full", "off", "keeps", "keeps", "keeps"):
                 check(send(it.port, 1, b"hello world", queue) == 0, f"a job for {queue} isn't taken")
             # (jobs are numbered by acceptance)
             has_line(it, "[WARN  lpd_daemon::printing] printer 1: job 1, place 0: No space left on device (os error 28)")
+            check(send(it.port, 2, b"hello world", "full") == 0, "a job that waits isn't taken")
             has_line(it, "[WARN  sink_devices::tcp_dial] printer 2: job 2: 127.0.0.1:PORT: Connection refused (os error 111)")
             if SHORT:
                 return "two lines"
@@ -158,7 +159,8 @@ def printers_are_told():
                 check(time.monotonic() < until, lines)
                 time.sleep(0.5)
                 lines = [shown(line) for line in it.log().splitlines()]
-    return "seven lines"
+            has_line(it, "[WARN  server_care::stewarding] printer 1 of full has stood still for 1 min, with 1 jobs: No space left on device (os error 28)", 90)
+    return "eight lines"
 
 
 def folders_are_told():
