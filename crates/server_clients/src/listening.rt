@@ -180,21 +180,20 @@ impl<'h, 'a, R: Clock + Log + Wait, E: HouseLedger> Porter<'h, 'a, R, E> {
         self.handed_on = self.handed_on.saturating_add(1);
     }
 
-    /// Holds connections and hands each on, until all that are to come have come; none where not
-    /// all threads were started. Says in lines when the account was rotated, each before the next
+    /// Holds connections and hands each on, until all that are to come have come. Says in lines when the account was rotated, each before the next
     /// connection is handed on.
     ///
     /// Output where such a line couldn't be written, Memory where memory for it was refused: all
-    /// have been handed on.
+    /// have been handed on. Memory too where not all threads were started: then none is.
     pub fn admit<W: OctetWrite>(&mut self, started: bool, output: &mut W) -> Result<(), ServerFault>
         ensures { TellsRotations (W.written output.old) (W.faults output.old)
             (W.written output.new) (W.faults output.new) result }
     {
         let (rt, alloc) = (self.hall.rt, self.hall.alloc);
-        let mut told = Ok(());
         if !started {
-            return told;
+            return Err(ServerFault::Memory);
         }
+        let mut told = Ok(());
         'rounds: for _ in rt.forever() {
             self.look_whether_it_stops();
             let lets_jobs_in = self.lets_jobs_in();
