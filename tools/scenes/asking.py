@@ -145,12 +145,12 @@ def at_once(cases):
 
 def a_socket_that_nobody_serves():
     """A process that listens at the path and accepts nobody, as a server that was stopped: its backlog is full, or has a place; one that reads nothing,
-    and one that answers nothing."""
+    and one that answers nothing. But a server that takes a stop's line, and answers it later than any other command is waited for, is waited for."""
     with contextlib.ExitStack() as opened:
         room = opened.enter_context(tempfile.TemporaryDirectory())
         with open(f"{room}/spool.toml", "w") as file:
             file.write(spool())
-        paths = {name: f"{room}/{name}" for name in ("full", "free", "silent")}
+        paths = {name: f"{room}/{name}" for name in ("full", "free", "silent", "late")}
         listeners = {name: opened.enter_context(socket.socket(socket.AF_UNIX)) for name in paths}
         for name, listener in listeners.items():
             listener.bind(paths[name])
@@ -158,6 +158,7 @@ def a_socket_that_nobody_serves():
         # (one connection more than the backlog is let in)
         first = opened.enter_context(socket.socket(socket.AF_UNIX))
         first.connect(paths["full"])
+        asked = []
 
         def accept():
             while True:
@@ -166,13 +167,29 @@ def a_socket_that_nobody_serves():
                 except OSError:
                     return
 
+        def end(peer):
+            with peer, contextlib.suppress(BrokenPipeError):
+                asked.append(peer.recv(4096))
+                time.sleep(PATIENCE + 1)
+                peer.sendall(b"end done\n")
+
+        def end_late():
+            while True:
+                try:
+                    threading.Thread(target=end, args=(listeners["late"].accept()[0],), daemon=True).start()
+                except OSError:
+                    return
+
         threading.Thread(target=accept, daemon=True).start()
-        control = [["control", paths[name], word] for name in paths for word in ("status", "hold")]
+        threading.Thread(target=end_late, daemon=True).start()
+        control = [["control", paths[name], word] for name in ("full", "free", "silent") for word in ("status", "hold")]
         control = [words + ["lp"] if words[-1] == "hold" else words for words in control] + [["control", paths["full"], "stop"]]
         serve = ["serve", f"{room}/spool.toml", "--port", "1", "--out", room, "--control"]
         looks = [[*words, paths[name]] for name in ("full", "free") for words in (["check", f"{room}/spool.toml", "--control"], serve)]
-        ended = at_once(control + looks)
-        listeners["silent"].shutdown(socket.SHUT_RDWR)
+        stops = [["control", paths["late"], *words] for words in (["stop"], ["stop", "5"], ["stop", "now"])]
+        ended = at_once(control + looks + stops)
+        for name in ("silent", "late"):
+            listeners[name].shutdown(socket.SHUT_RDWR)
         for words, (status, lines, seconds) in zip(control + looks, ended):
             said = f"{' '.join(words)}: {status} {lines} in {seconds:.1f} s"
             path = words[1] if words[0] == "control" else words[-1]
@@ -183,26 +200,63 @@ def a_socket_that_nobody_serves():
             else:
                 why = "takes no more connections" if path == paths["full"] else "a server answers at the path"
                 check(lines[-2].endswith(why) and seconds <= GRACE, said)
-    return f"{len(ended)} ended with why"
+        for words, (status, lines, seconds) in zip(stops, ended[-len(stops):]):
+            check((status, lines) == (0, []) and seconds >= PATIENCE + 0.5, f"{words}: {status} {lines} in {seconds:.1f} s")
+        check(sorted(asked) == [b"stop\n", b"stop 5\n", b"stop now\n"], f"{asked}")
+    return f"{len(control + looks)} ended with why, {len(stops)} were waited for"
 
 
-def a_stop_is_waited_for():
-    """A server that takes a stop's line, and answers it later than any other command is waited for."""
-    with tempfile.TemporaryDirectory() as room, socket.socket(socket.AF_UNIX) as listener:
-        listener.bind(f"{room}/socket")
-        listener.listen()
+def ask_at(path, line):
+    """A connection to a control socket that has sent so much."""
+    peer = socket.socket(socket.AF_UNIX)
+    peer.settimeout(20)
+    peer.connect(path)
+    peer.sendall(line)
+    return peer
 
-        def serve():
-            peer = listener.accept()[0]
-            with peer:
-                peer.recv(4096)
-                time.sleep(PATIENCE + 2)
-                peer.sendall(b"end done\n")
 
-        threading.Thread(target=serve, daemon=True).start()
-        status, lines, seconds = takes_time(["control", f"{room}/socket", "stop"])
-        check(status == 0 and seconds >= PATIENCE + 1.5, f"{status} {lines} in {seconds:.1f} s")
-        return f"answered after {seconds:.0f} s"
+def who_asks_at_the_end_is_answered():
+    """Whoever has sent a whole line to a server that has stopped, and isn't done yet, is answered as who stopped it; half a line isn't answered."""
+    ours, theirs = os.pipe()
+    with tempfile.TemporaryDirectory() as room, Server(PROGRAM, spool(), "--control", f"{room}/socket", stdout=theirs) as it, contextlib.ExitStack() as opened:
+        check(os.read(ours, 100).startswith(b"listening "), "it doesn't say where it listens")
+        # (there is no room for what it says at its end, so it stays there)
+        filler = os.open(f"/proc/self/fd/{theirs}", os.O_WRONLY | os.O_NONBLOCK)
+        with contextlib.suppress(BlockingIOError):
+            while os.write(filler, b"x" * 4096):
+                pass
+        with contextlib.suppress(BlockingIOError):
+            while os.write(filler, b"x"):
+                pass
+        stop = opened.enter_context(ask_at(f"{room}/socket", b"stop now\n"))
+
+        def has_come_to_its_end():
+            calls = []
+            for task in os.listdir(f"/proc/{it.process.pid}/task"):
+                with contextlib.suppress(OSError):
+                    calls.append(open(f"/proc/{it.process.pid}/task/{task}/syscall").read().split()[:2])
+            # (it writes to its standard output)
+            return ["1", "0x1"] in calls
+
+        end = time.monotonic() + 10
+        while not has_come_to_its_end():
+            check(time.monotonic() < end, "it doesn't come to its end")
+            time.sleep(0.05)
+        asked = [opened.enter_context(ask_at(f"{room}/socket", line)) for line in (b"status\n", b"hold lp\n", b"stop\n", b"nosuch\n", b"stat", b"")]
+        while select.select([ours], [], [], 0.5)[0] and os.read(ours, 65536):
+            pass
+        told = []
+        for peer in (stop, *asked):
+            octets = b""
+            with contextlib.suppress(ConnectionResetError):
+                while piece := peer.recv(4096):
+                    octets += piece
+            told.append(octets)
+        check(told == [b"end done\n"] * 5 + [b""] * 2, f"{told}")
+        check(it.process.wait(10) == 0, "its status isn't 0")
+        for end in (ours, theirs, filler):
+            os.close(end)
+        return f"{len(told)} asked"
 
 
 def a_person_who_types_no_words():
@@ -246,8 +300,7 @@ def a_file_that_is_not_there():
     return "each"
 
 
-SCENES = [a_file_that_is_not_there, answers_at_a_terminal, a_user_at_a_terminal, a_socket_that_nobody_serves, a_stop_is_waited_for, a_person_who_types_no_words]
-LONG = [a_stop_is_waited_for]
+SCENES = [a_file_that_is_not_there, answers_at_a_terminal, a_user_at_a_terminal, a_socket_that_nobody_serves, who_asks_at_the_end_is_answered, a_person_who_types_no_words]
 
 if __name__ == "__main__":
-    sys.exit(main(SCENES, __doc__, LONG))
+    sys.exit(main(SCENES, __doc__))

@@ -1,18 +1,20 @@
 #!/usr/bin/env python3
 """Scenes of who asks for the status beside peers that halt: scraping.py PROGRAM [SCENE..], where PROGRAM is the built lpd_server.
 
-A line says what was seen; the last line is 'N passed, M failed'."""
+What is told of times is looked at with a clock that is set by hand, which wants a C compiler. A line says what was seen; the last line is 'N passed, M failed'."""
 import contextlib
+import os
 import re
 import selectors
 import socket
+import struct
 import subprocess
 import sys
 import tempfile
 import threading
 import time
 
-from client import Server, free_port, send, spool
+from client import Server, answer, connect, free_port, send, spool
 from scene import CHECKED, PROGRAM, check, main, size
 
 # How long a request may take beside others, in seconds; how many peers read nothing, and how many seconds pass until one of them comes again: a program
@@ -22,11 +24,78 @@ PAGE = b"GET / HTTP/1.1\r\nHost: localhost\r\n\r\n"
 
 
 @contextlib.contextmanager
-def shown(config=None, *words):
+def shown(config=None, *words, **how):
     """A server that shows its status, and the port of that."""
     port = free_port()
-    with Server(PROGRAM, config or spool(), "--status", str(port), *words) as it:
+    with Server(PROGRAM, config or spool(), "--status", str(port), *words, **how) as it:
         yield it, port
+
+
+class Clock:
+    """A clock that stands still but where it is set: a library in front of the system's, which the program is started with. It wants a compiler."""
+
+    # (beside it the sync of a file whose path has the end UNSYNCED fails)
+    LIBRARY = r"""
+#define _GNU_SOURCE
+#include <errno.h>
+#include <fcntl.h>
+#include <stdio.h>
+#include <stdlib.h>
+#include <string.h>
+#include <sys/mman.h>
+#include <sys/syscall.h>
+#include <time.h>
+#include <unistd.h>
+static volatile long *now;
+__attribute__((constructor)) static void begin(void) {
+    int file = open(getenv("CLOCK"), O_RDONLY);
+    void *seen = mmap(0, sizeof *now, PROT_READ, MAP_SHARED, file, 0);
+    if (seen != MAP_FAILED) now = seen;
+    close(file);
+}
+int clock_gettime(clockid_t clock, struct timespec *told) {
+    long left = syscall(SYS_clock_gettime, clock, told);
+    if (left == 0 && clock == CLOCK_MONOTONIC && now && *now) {
+        told->tv_sec = *now;
+        told->tv_nsec = 0;
+    }
+    return left;
+}
+int fdatasync(int file) {
+    char link[32], path[4096];
+    const char *end = getenv("UNSYNCED");
+    snprintf(link, sizeof link, "/proc/self/fd/%d", file);
+    long count = end ? readlink(link, path, sizeof path) : 0;
+    if (end && count >= (long)strlen(end) && memcmp(path + count - strlen(end), end, strlen(end)) == 0) {
+        errno = EIO;
+        return -1;
+    }
+    return syscall(SYS_fdatasync, file);
+}
+"""
+    # When a server starts by it, in seconds.
+    START = 1_000_000
+
+    def __init__(self):
+        self.room = tempfile.TemporaryDirectory()
+        self.path, library = f"{self.room.name}/now", f"{self.room.name}/clock.so"
+        self.set(0)
+        try:
+            subprocess.run(["gcc", "-shared", "-fPIC", "-o", library, "-x", "c", "-"], input=self.LIBRARY, text=True, check=True, capture_output=True)
+        except OSError as error:
+            raise subprocess.CalledProcessError(1, ["gcc"]) from error
+        self.environment = {**os.environ, "LD_PRELOAD": library, "CLOCK": self.path}
+
+    def set(self, seconds):
+        """It stands so many seconds behind the start of a server."""
+        with open(self.path, "r+b" if os.path.exists(self.path) else "wb") as file:
+            file.write(struct.pack("q", self.START + seconds))
+
+    def __enter__(self):
+        return self
+
+    def __exit__(self, *_):
+        self.room.cleanup()
 
 
 def open_to(port, octets=b"", room=None):
@@ -204,7 +273,185 @@ def a_slow_reader_has_a_whole_page():
         return f"{count} octets in {took:.1f} s"
 
 
+def until(holds, text, limit=10):
+    """Waits until it holds."""
+    end = time.monotonic() + limit
+    while not holds():
+        check(time.monotonic() < end, text() if callable(text) else text)
+        time.sleep(0.05)
+
+
+def command(path, *words):
+    """What is answered to a command at a control socket."""
+    ran = subprocess.run([PROGRAM, "control", path, *words], capture_output=True, text=True, timeout=30)
+    check(ran.returncode == 0, f"{words}: {ran}")
+    return ran.stdout
+
+
+def page_of(port):
+    return ask(port, PAGE).decode().partition("\r\n\r\n")[2]
+
+
+def total(port, name):
+    """A counter of /metrics."""
+    return int(re.search(rb"(?m)^%s (\d+)$" % name.encode(), ask(port, b"GET /metrics HTTP/1.1\r\nHost: localhost\r\n\r\n"))[1])
+
+
+# A time in seconds, and how the page tells it.
+SPANS = [(0, "0 s"), (1, "1 s"), (59, "59 s"), (60, "1 min"), (61, "1 min"), (119, "1 min"), (120, "2 min"), (3_599, "59 min"), (3_600, "1 h 0 min"), (3_601, "1 h 0 min"),
+         (3_659, "1 h 0 min"), (3_660, "1 h 1 min"), (7_199, "1 h 59 min"), (7_200, "2 h 0 min"), (86_399, "23 h 59 min"), (86_400, "1 d 0 h"), (89_999, "1 d 0 h"),
+         (90_000, "1 d 1 h"), (172_799, "1 d 23 h"), (172_800, "2 d 0 h"), (8_640_000, "100 d 0 h")]
+
+
+def times_on_the_page():
+    """At each moment the page tells for how long the server runs, and of each held job for how long that is held, to the second; /metrics and `status` tell the same of the
+    server."""
+    with Clock() as clock, tempfile.TemporaryDirectory() as room, shown(None, "--control", f"{room}/control", env=clock.environment) as (it, port):
+        command(f"{room}/control", "hold", "lp")
+        # (each job is held since another moment, and the first of them for the longest time)
+        came = [0, 1, 60, 3_600]
+        for seconds, told in SPANS:
+            clock.set(seconds)
+            if seconds in came:
+                check(send(it.port, seconds % 1000, b"x", host=f"127.0.0.{came.index(seconds) + 2}") == 0, f"the job at {seconds} s isn't taken")
+            page = page_of(port)
+            check(f'<p class="meta">up {told}</p>' in page, f"at {seconds} s: {re.findall('class=.meta.>([^<]*)', page)}")
+            rows = re.search(r'<table class="jobs">.*?</table>', page, re.S)
+            ages = re.findall(r'<td class="n">([^<]*)</td><td class="st', rows[0]) if rows else []
+            spans = dict(SPANS)
+            due = [seconds - since for since in came if since <= seconds]
+            check(len(ages) == len(due) and all(age == spans[span] for age, span in zip(ages, due) if span in spans), f"at {seconds} s, {due}: {ages}")
+            check(total(port, "hurgwaye_uptime_seconds") == seconds, f"/metrics at {seconds} s")
+            check(command(f"{room}/control", "status").startswith(f"uptime {seconds}\n"), f"status at {seconds} s")
+    return f"{len(SPANS)} moments"
+
+
+def curves_of_the_last_hour():
+    """The bars of jobs and octets stand where they were printed, each minute's as high as it has to be; before the second look there are none, and what is older than an hour
+    has no width."""
+    minutes = [[1_000], [500] * 4, [2_000] * 2, []]
+
+    def drawn(port, clock, seconds):
+        clock.set(seconds)
+        page = page_of(port)
+        return re.findall(r'<path class="rate" d="([^"]*)"', page), re.findall(r"<span>([^<]*)</span>", page.partition('id="rates"')[2].partition("</section>")[0])
+
+    with Clock() as clock, shown(env=clock.environment) as (it, port):
+        check(drawn(port, clock, 0) == ([], []), "bars at the start")
+        count = 0
+        for minute, jobs in enumerate(minutes):
+            for octets in jobs:
+                count += 1
+                check(send(it.port, count, b"x" * octets) == 0, f"job {count} isn't taken")
+            until(lambda: total(port, "hurgwaye_jobs_done_total") == count, f"{count} jobs aren't printed")
+            check(minute or drawn(port, clock, 59) == ([], []), "bars at 59 s")
+            curves, ticks = drawn(port, clock, 60 * (minute + 1))
+        due = ["M3360 1000V750H3420V1000ZM3420 1000V0H3480V1000ZM3480 1000V500H3540V1000ZM3540 1000V1000H3600V1000Z",
+               "M3360 1000V750H3420V1000ZM3420 1000V500H3480V1000ZM3480 1000V0H3540V1000ZM3540 1000V1000H3600V1000Z"]
+        scale = ["−60 min", "−45", "−30", "−15", "now"]
+        check(curves == due, f"{curves}")
+        check(ticks == ["4", "2", "0", *scale, "3.9 KiB", "1.9 KiB", "0 B", *scale], f"{ticks}")
+        # (a look that is late stands where it was taken, and a rate is that of a minute)
+        for number in range(6):
+            check(send(it.port, number, b"x" * 1_000) == 0, "a job isn't taken")
+        until(lambda: total(port, "hurgwaye_jobs_done_total") == count + 6, "they aren't printed")
+        curves, ticks = drawn(port, clock, 240 + 180)
+        check(curves[0] == "M3180 1000V750H3240V1000ZM3240 1000V0H3300V1000ZM3300 1000V500H3360V1000ZM3360 1000V1000H3420V1000ZM3420 1000V500H3600V1000Z", f"{curves[0]}")
+        curves, ticks = drawn(port, clock, 3_700)
+        due = "M0 1000V750H0V1000ZM0 1000V0H20V1000ZM20 1000V500H80V1000ZM80 1000V1000H140V1000ZM140 1000V500H320V1000ZM320 1000V1000H3600V1000Z"
+        check(curves[0] == due and ticks[:3] == ["4", "2", "0"], f"{curves[0]}, {ticks}")
+        return f"{len(minutes)} minutes"
+
+
+def silences_are_those_of_who_is_there():
+    """`status` tells of each session how long its own peer has been silent: who comes to a session that another has left isn't as silent as that one was."""
+    with Clock() as clock, tempfile.TemporaryDirectory() as room:
+        with Server(PROGRAM, spool(), "--control", f"{room}/control", "--sessions", "2", env=clock.environment) as it:
+            def silences():
+                return dict(re.findall(r"(?m)^session (\S+) silent (\d+)$", command(f"{room}/control", "status")))
+
+            def come(host, seconds):
+                """Comes at a second, and says so much that a session has it."""
+                clock.set(seconds)
+                peer = connect(it.port, host)
+                peer.sendall(b"\x02lp\n")
+                check(answer(peer) == 0, f"{host} isn't answered")
+                return peer, "%s:%d" % peer.getsockname()
+
+            def stands(due):
+                until(lambda: silences() == due, lambda: f"due {due}, seen {silences()}")
+
+            first, first_name = come("127.0.0.2", 0)
+            stands({first_name: "0"})
+            second, second_name = come("127.0.0.3", 40)
+            clock.set(100)
+            stands({first_name: "100", second_name: "60"})
+            for peer, gone, left, host, seconds in ((first, first_name, {second_name: "60"}, "127.0.0.4", 100), (second, second_name, None, "127.0.0.5", 250)):
+                peer.close()
+                if left:
+                    stands(left)
+                    third, third_name = come(host, seconds)
+                    stands({**left, third_name: "0"})
+                    clock.set(130)
+                    stands({second_name: "90", third_name: "30"})
+                else:
+                    stands({third_name: "30"})
+                    fourth, fourth_name = come(host, seconds)
+                    stands({third_name: "150", fourth_name: "0"})
+            third.sendall(b"\x03")
+            stands({third_name: "0", fourth_name: "0"})
+            for peer in (third, fourth):
+                peer.close()
+            stands({})
+    return "four peers at two sessions"
+
+
+def who_has_gone_leaves_nothing():
+    """A peer whose place in the lobby another had before, who is served or has gone, is waited for as any: its half line is no line when that one ends, and takes no session."""
+    with tempfile.TemporaryDirectory() as room, Server(PROGRAM, spool(), "--control", f"{room}/control", "--sessions", "1") as it:
+        def stands():
+            return dict(re.findall(r"(?m)^(lobby|session \S+) (?:silent )?(\d+)$", command(f"{room}/control", "status")))
+
+        def come(octets, due):
+            peer = connect(it.port)
+            peer.sendall(octets)
+            until(lambda: due(stands()), lambda: f"{octets}: {stands()}")
+            return peer
+
+        def asked(title):
+            """Whoever asks is answered, since the half line has no session."""
+            for _ in range(3):
+                with contextlib.closing(connect(it.port, limit=5)) as peer:
+                    peer.sendall(b"\x03lp\n")
+                    check(peer.recv(100).startswith(b"queue lp "), f"{title}: who asks isn't answered")
+                until(lambda: list(stands()) == ["lobby"], lambda: f"{title}: {stands()}")
+                check(stands() == {"lobby": "1"}, f"{title}: {stands()}")
+
+        # (each comes to the place that was left last)
+        for title, octets, is_served in (("one that was served", b"\x02lp\n", True), ("one that left amid a line", b"\x03l", False), ("one that said nothing", b"", False)):
+            for _ in range(3):
+                first = come(octets, lambda seen: len(seen) == 2 if is_served else seen == {"lobby": "1"})
+                half = None
+                if is_served:
+                    half = come(b"\x03l", lambda seen: seen.get("lobby") == "1" and len(seen) == 2)
+                first.close()
+                if not is_served:
+                    until(lambda: stands() == {"lobby": "0"}, lambda: f"{title}: {stands()}")
+                    half = come(b"\x03l", lambda seen: seen == {"lobby": "1"})
+                until(lambda: stands() == {"lobby": "1"}, lambda: f"{title} has gone: {stands()}")
+                asked(title)
+                with contextlib.closing(half):
+                    half.sendall(b"p\n")
+                    check(half.recv(100).startswith(b"queue lp "), f"{title}: the rest of the line isn't answered")
+                until(lambda: stands() == {"lobby": "0"}, lambda: f"{title}, at the end: {stands()}")
+    return "three that had gone"
+
+
 SCENES = [
+    times_on_the_page,
+    curves_of_the_last_hour,
+    silences_are_those_of_who_is_there,
+    who_has_gone_leaves_nothing,
     peers_that_halt_hold_up_nobody,
     who_ends_no_line_is_told,
     who_has_halted_longest_gives_way,
