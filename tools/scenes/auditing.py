@@ -115,6 +115,11 @@ class Books:
         self.room.cleanup()
 
 
+def told_of(out):
+    """What an audit tells of printers: each of its lines but for the sums and the digest at the end."""
+    return [line for line in out.splitlines() if not line.startswith(("legal ", "ends "))]
+
+
 def digests(text):
     return re.findall(r"\b[0-9a-f]{64}\b", text)
 
@@ -285,8 +290,15 @@ def folders():
             got = room.audit(*place, *words)
             check(got[0] == status and re.search(out, got[1]) and re.match(why, got[2]), f"{label}: {got}")
 
-        run(b"one", b"two" * 2000, b"three")
+        # (a server's own mode, whatever the system would give)
+        umask = os.umask(0)
+        try:
+            run(b"one", b"two" * 2000, b"three")
+        finally:
+            os.umask(umask)
         check(names() == ["job-0000000001", "job-0000000002", "job-0000000003"], names())
+        modes = {oct(os.stat(f"{jobs}/{name}").st_mode & 0o777) for name in names()}
+        check(modes == {"0o640"}, f"others may read what was printed: {modes}")
         told("as it is", 0, "printed 1 octets 6008\n$", "$")
         run(b"four", b"five")
         told("two runs", 0, "printed 1 octets 6016\n$", "$")
@@ -333,8 +345,17 @@ def folders():
             os.remove(f"{jobs}/{name}")
         run(b"eight", b"nine!")
         check(names() == ["job-0000000001", "job-0000000002"], names())
-        told("taken and begun again", 0, "not judged 1: job 1, which no file has\nnot judged 1: job 2, which no file has\n(.*\n)*printed 1 octets 10\n", "$", "--taken", "1")
+        # (a file that is gone is told where its job is read; one that a later job has, at the end)
+        gone = [f"not judged 1: job {number}, which no file has" for number in (3, 1, 2, 1, 2)]
+        due = [*gone, "printed 1 octets 10", *(f"not judged 1: job {number}, which no file has" for number in (1, 2))]
+        status, out, why = room.audit(*place, "--taken", "1")
+        check(status == 0 and told_of(out) == due and not why, f"taken and begun again: {status} {out}{why}")
         told("nobody said so", 6, "", "fault 83 ")
+        # beside files that later jobs have one that none has
+        with open(f"{jobs}/job-0000000003", "wb") as file:
+            file.write(b"thref")
+        told("one that no later job has", 6, "", r"fault 83 Printed \S+ printer 1 job 3 place 0 octet 0 of \S+/job-0000000003\n", "--taken", "1")
+        os.remove(f"{jobs}/job-0000000003")
         # a second printer of the folder, by another path
         os.symlink(jobs, f"{room.folder}/link")
         two = ("--printer", f"1=folder:{jobs}", "--printer", f"2=folder:{room.folder}/link")
@@ -366,6 +387,63 @@ def made_by_hand(folder):
         "opened 1 0 1", "controlled 1 part 1 h3 eve dfA001h1", "began 1 dfA001h1 11", "granted 1", f"put 1 0 0 8 {full}", "aborted 1",
         "opened 2 0 1", "aborted 2"])
     return paths
+
+
+def folders_of_version_1():
+    """Of a folder whose files' numbers the account doesn't tell each run's jobs have files in order, from the first one on that has a job's pages: behind that none is
+    passed over, and a job that has no file is told."""
+    texts = (b"one", b"second", b"three")
+    with tempfile.TemporaryDirectory() as folder:
+        jobs, paths, end, number = f"{folder}/jobs", [], None, 0
+        os.mkdir(jobs)
+        for run, texts_of_run in enumerate((texts, (b"four", b"fifth")), 1):
+            lines = []
+            for job, text in enumerate(texts_of_run, 1):
+                page = f"0 {len(text)} {hashlib.sha256(text).hexdigest()}"
+                lines += [f"opened {job} 0 1", f"began {job} dfA001h1 {len(text)}", f"granted {job}", f"put {job} 0 {page}", f"ended {job} 0 part",
+                          f"controlled {job} whole 1 h1 ann dfA001h1", f"handed 1 {job} 0 0 {page}", f"printed done 1 {job} 0 0 {page}"]
+            paths.append(f"{folder}/{run}")
+            end = segment(paths[-1], [f"account 1 {run} 1 2026-11-26T22:00:00Z 2026-11-26T22:00:09Z {f'after {end}' if end else 'first'}", "config 4 8 8 100000 lp 3 1",
+                                      f"printer folder:{jobs} -", "base 0 0 0 0 0 open running"], [*lines, "closed"])
+
+        def audit(files, *words):
+            for name in os.listdir(jobs):
+                os.remove(f"{jobs}/{name}")
+            for number, octets in files:
+                with open(f"{jobs}/job-{number:010}", "wb") as file:
+                    file.write(octets)
+            ran = subprocess.run([PROGRAM, "audit", *paths, "--printed", f"1={jobs}", *words], capture_output=True, text=True, timeout=60)
+            return ran.returncode, told_of(ran.stdout), ran.stderr
+
+        def differs(label, files, job):
+            """The next file has other octets than this job, which is a fault, whoever takes files away."""
+            for words in ((), ("--taken", "1")):
+                got = audit(files, *words)
+                check(got[0] == 6 and not got[1] and re.fullmatch(rf"fault 83 Printed {folder}/\S+ printer 1 job {job} place 0 octet \d+ of {jobs}\n", got[2]), f"{label}: {got}")
+
+        def lacks(label, files, job, octets):
+            """This job has no file: that is a fault at the end, or only told where somebody takes files away."""
+            lines = [f"not judged 1: job {job}, which no file has", f"printed 1 octets {octets}"]
+            got = audit(files, "--taken", "1")
+            check(got == (0, lines, ""), f"{label}, taken: {got}")
+            got = audit(files)
+            check(got[:2] == (6, lines) and re.fullmatch(rf"fault 83 Printed {folder}/\S+ printer 1 job {job} isn't in {jobs}\n", got[2]), f"{label}: {got}")
+
+        files = [(4, b"one"), (5, b"second"), (6, b"three"), (7, b"four"), (8, b"fifth")]
+        due = (0, ["printed 1 octets 23"], "")
+        for label, more in (("as it is", []), ("files before the first", [(1, b"old"), (2, b"older")]), ("another printer's behind", [(11, b"new")])):
+            got = audit([*files, *more])
+            check(got == due, f"{label}: {got}")
+        got = audit([*files[:3], (7, b"between"), (8, b"four"), (9, b"fifth")])
+        check(got == due, f"a file between two runs: {got}")
+        differs("a file within a run", [files[0], (5, b"within"), (6, b"second"), (7, b"three"), (8, b"four"), (9, b"fifth")], 2)
+        differs("another file within a run", [*files[:2], (6, b"within"), (7, b"three"), (8, b"four"), (9, b"fifth")], 3)
+        differs("a file within the last run", [*files[:4], (8, b"within"), (9, b"fifth")], 2)
+        differs("a file taken within a run", [files[0], *files[2:]], 2)
+        differs("a changed file", [files[0], (5, b"secone"), *files[2:]], 2)
+        lacks("no first file", files[1:], 1, 20)
+        lacks("no last file", files[:-1], 2, 18)
+        return "in order, and none passed over"
 
 
 def what_was_used():
@@ -437,15 +515,22 @@ def a_printer_that_moves():
             check(send(room.port, number, b"page %d" % number) == 0, "a job isn't taken")
             room.stop()
         both = ("--printed", f"1@file:{one}={one}", "--printed", f"1@file:{two}={two}")
-        status, out, why = room.audit(*both)
-        check(status == 0 and out.endswith("printed 1 octets 12\nprinted 1 octets 6\n"), f"{status} {out}{why}")
-        status, out, why = room.audit("--printed", f"1={one}")
-        check(status == 0 and f"not judged 1: run 2 printed to file:{two}\n" in out and out.endswith("printed 1 octets 12\n"), f"{status} {out}{why}")
-        status, out, why = room.audit("--printed", f"1@file:{two}={two}")
-        check(status == 0 and f"not judged 1: run 1 printed to file:{one}\n" in out and "printed 1 octets 6\n" in out, f"{status} {out}{why}")
-        for number in (0, 9):
-            status, out, why = room.audit("--printed", f"1={one}", "--printed", f"{number}={one}")
-            check(status == 0 and out.endswith(f"printed 1 octets 12\nnot judged {number}: the account has no such printer\n"), f"{status} {out}{why}")
+        first, second = f"not judged 1: run 1 printed to file:{one}", f"not judged 1: run 2 printed to file:{two}"
+        # (a directory has the default files of the printers of which nothing is said: the second one's has nothing, and the first one printed to none)
+        with open(f"{room.folder}/printer-1", "wb") as file:
+            file.write(b"somebody's")
+        for label, words, lines in (
+                ("both", both[1::2], ["printed 1 octets 12", "printed 1 octets 6"]),
+                ("the printer's", (f"1={one}",), [second, "printed 1 octets 12"]),
+                ("the second place's", (f"1@file:{two}={two}",), [first, "printed 1 octets 6"]),
+                ("no printer's, 0", (f"1={one}", f"0={one}"), [second, "printed 1 octets 12", "not judged 0: the account has no such printer"]),
+                ("no printer's, 9", (f"9={one}", f"1={one}"), [second, "printed 1 octets 12", "not judged 9: the account has no such printer"]),
+                ("two printers'", (f"1={one}", f"2={room.folder}/printer-2"), [second, "printed 1 octets 12", "printed 2 octets 0"]),
+                ("a directory, and the second place's", (room.folder, f"1@file:{two}={two}"), [first, "printed 2 octets 0", "printed 1 octets 6"]),
+                ("a directory, and the printer's", (f"1={one}", room.folder), [second, "printed 1 octets 12", "printed 2 octets 0"]),
+                ("the other printer's", (f"2={room.folder}/printer-2",), ["printed 2 octets 0"])):
+            status, out, why = room.audit(*(it for word in words for it in ("--printed", word)))
+            check(status == 0 and told_of(out) == lines and not why, f"{label}: {status} {out}{why}")
         with open(two, "wb") as file:
             file.write(b"page x")
         status, out, why = room.audit(*both)
@@ -487,10 +572,41 @@ def a_last_segment_that_goes_on():
         for wrong in (text + b"x", text + b"x\n", text + b"\n", text[:-1], text[:-2], text[:len(text) // 2], b""):
             with open(last, "wb") as file:
                 file.write(wrong)
-            ran = subprocess.run([PROGRAM, "serve", f"{room.folder}/spool.toml", "--port", str(room.port), "--account", room.account],
-                                 capture_output=True, text=True, timeout=30)
+            # (one that goes on is ended)
+            ran = subprocess.run(["timeout", "8", PROGRAM, "serve", f"{room.folder}/spool.toml", "--port", str(room.port), "--out", room.folder, "--account",
+                                  room.account], capture_output=True, text=True, timeout=30)
             check(ran.returncode == 4 and "segment-0000000001 isn't a whole segment" in ran.stderr, f"{wrong[-9:]}: {ran.returncode} {ran.stderr}")
+            check(open(last, "rb").read() == wrong and room.segments() == [last], f"{wrong[-9:]}: it was changed")
         return "seven ways"
+
+
+def a_start_goes_on_behind_the_last():
+    """A start goes on behind the segment of the greatest number, in whichever order the directory lists them: all of them are one account then."""
+    with Books("--keep-room") as room:
+        os.mkdir(room.account)
+        runs, seen, chance = 0, set(), random.Random(7)
+        while len(seen) < 2 or runs < 4:
+            check(runs < 40, f"the directory lists the greatest one at one end each time: {seen}")
+            paths = room.segments()
+            # (where the order is that in which the files were made it is another one each time)
+            texts = [(path, open(path, "rb").read()) for path in paths]
+            chance.shuffle(texts)
+            for path, _ in texts:
+                os.remove(path)
+            for path, text in texts:
+                with open(path, "wb") as file:
+                    file.write(text)
+            listed = [name for name in os.listdir(room.account) if name.startswith("segment-")]
+            seen |= {end for end in (0, -1) if listed and listed[end] != os.path.basename(paths[-1])}
+            room.start()
+            check(send(room.port, runs, b"a page") == 0, "a job isn't taken")
+            room.stop()
+            runs += 1
+            names = [os.path.basename(path) for path in room.segments()]
+            check(names == [f"segment-{number:010}" for number in range(1, runs + 1)], names)
+            status, told, why = room.audit()
+            check(status == 0 and told.startswith(f"legal segments {runs} ") and f" jobs {runs} done {runs} " in told, f"{runs} runs: {status} {told}{why}")
+        return f"{runs} runs, listed in several orders"
 
 
 def hostile_files():
@@ -566,7 +682,8 @@ def write_segment(path, run, previous, entries):
     return count
 
 
-SCENES = [written_and_audited, changed_files_are_told, folders, what_was_used, an_empty_file_is_no_segment, names_are_no_formulas, a_printer_that_moves, pipes_in_the_place_of_files, a_last_segment_that_goes_on, a_full_disk, hostile_files, a_long_account]
+SCENES = [written_and_audited, changed_files_are_told, folders, folders_of_version_1, what_was_used, an_empty_file_is_no_segment, names_are_no_formulas, a_printer_that_moves,
+          pipes_in_the_place_of_files, a_last_segment_that_goes_on, a_start_goes_on_behind_the_last, a_full_disk, hostile_files, a_long_account]
 
 if __name__ == "__main__":
     sys.exit(main(SCENES, __doc__))

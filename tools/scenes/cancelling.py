@@ -5,16 +5,20 @@ Each is named by its number of acceptance or by that of its file; jobs of two ho
 line is 'N passed, M failed'."""
 import contextlib
 import os
+import shutil
+import string
 import sys
 import time
 import urllib.request
 
-from client import begin, finish, free_port, send
+from client import answer, ask, begin, connect, finish, free_port, send
 from keeping import Room
 from scene import check, main
 
 # Longer than what a pipe holds: its printer has begun it, and isn't through with it.
 LONG = b"x" * 200_000
+# The letters by which a job names its files: as many as it may have.
+LETTERS = string.ascii_uppercase + string.ascii_lowercase
 
 
 def spool(jobs, pages=256):
@@ -58,6 +62,19 @@ class Desk(Room):
                 return told
             time.sleep(0.05)
         raise AssertionError(f"status has {'no ' if there else ''}{part!r}: {told}")
+
+
+def send_files(port, number, files, user="ann", queue="lp", at=None):
+    """Sends a job of these data files, and its control file before the one at this place, or behind all."""
+    names = [f"df{LETTERS[place]}{number:03}h1" for place in range(len(files))]
+    text = f"Hh1\nP{user}\n{''.join(f'f{name}{chr(10)}' for name in names)}".encode()
+    pieces = [(f"\x03{len(octets)} {name}\n".encode(), octets + b"\0") for name, octets in zip(names, files)]
+    pieces.insert(len(files) if at is None else at, (f"\x02{len(text)} cfA{number:03}h1\n".encode(), text + b"\0"))
+    with contextlib.closing(connect(port)) as peer:
+        for line in (b"\x02" + queue.encode() + b"\n", *(line for piece in pieces for line in piece)):
+            peer.sendall(line)
+            octet = answer(peer)
+            check(octet == 0, f"job {number} is answered by {octet} at {line[:20]!r}")
 
 
 def jobs_of_two_hosts():
@@ -150,6 +167,66 @@ def files_whose_jobs_have_other_numbers():
         return "both"
 
 
+def jobs_of_as_many_files_as_may_be():
+    """A kept job with all the files that it may have is told as any other, wherever its control file comes: it is listed while it waits, goes by its file, and is sent
+    again once it has failed."""
+    files = [bytes([at + 1]) * (at + 1) for at in range(len(LETTERS))]
+    octets = sum(map(len, files))
+    with Desk(keeps=True) as desk:
+        desk.start()
+        desk.says("hold lp", "")
+        places = (len(files), 0, len(files) // 2, len(files) - 1)
+        for number, at in enumerate(places, 1):
+            send_files(desk.port, number, files, at=at)
+        desk.await_status("kept waiting 4 failed 0")
+        listed = ask(desk.port, b"\x03lp\n")[0].decode().splitlines()
+        due = ["queue lp jobs 0 printers 1 stopped 0", "4 jobs wait in the folder", *(f"waiting {number:03} ann h1 pages 52" for number in range(1, 5))]
+        check(listed == due, listed)
+        for number in range(1, len(places) + 1):
+            desk.says(f"cancel file {number}", f"removed file {number} ({number:03}) ann@h1 of lp\n")
+        desk.await_files(0)
+        for number, at in enumerate(places, 1):
+            send_files(desk.port, number, files, queue="bad", at=at)
+            desk.await_files(1, "failed")
+            desk.says("start bad", "started 2\n")
+            desk.says(f"resend {number + 4}", f"resent file {number + 4} ({number:03}) ann@h1 of bad\n")
+            desk.await_files(1, "failed")
+            desk.says("start bad", "started 2\n")
+            desk.says(f"cancel file {number + 4}", f"removed file {number + 4} ({number:03}) ann@h1 of bad\n")
+        return f"{len(files)} files of {octets} octets, with the control file at {len(places)} places"
+
+
+def one_behind_a_thousand():
+    """Of 1,003 jobs that wait in the folder a user's only one, behind a thousand others, is removed by its number, and another one by root, who names its user; a
+    question lists the first thousand, and tells how many more there are."""
+    with Desk(keeps=True) as desk:
+        desk.start()
+        desk.says("hold lp", "")
+        for number, user in ((1, "ann"), (2, "bob"), (3, "cy")):
+            send_files(desk.port, number, [b"y"], user)
+        desk.await_status("kept waiting 3 failed 0")
+        desk.kill()
+        for at, name in ((1_003, 3), (1_002, 2), *((at, 1) for at in range(2, 1_002))):
+            shutil.copy(f"{desk.kept}/{name}.job", f"{desk.kept}/{at}.job")
+        desk.start()
+        desk.await_status("kept waiting 1003 failed 0")
+        # A start reads one file after another.
+        for _ in range(400):
+            told = ask(desk.port, b"\x03lp\n")[0].decode().splitlines()
+            if "1003 jobs wait in the folder" in told:
+                break
+            time.sleep(0.05)
+        check(told == ["queue lp jobs 0 printers 1 stopped 0", "1003 jobs wait in the folder", *["waiting 001 ann h1 pages 1"] * 1_000, ".. and 3 more"], told[:3] + told[-3:])
+        told = ask(desk.port, b"\x05lp bob 2\n")[0]
+        check(told == b"nothing removed\nremoved 002 bob\n", told)
+        told = ask(desk.port, b"\x05lp root cy\n")[0]
+        check(told == b"nothing removed\nremoved 003 cy\n", told)
+        desk.await_status("kept waiting 1001 failed 0")
+        names = {f"{at}.job" for at in range(1, 1_002)}
+        check(set(desk.files("job")) == names, sorted(names ^ set(desk.files("job"))))
+        return "both"
+
+
 def removed_by_its_number():
     """`remove` takes a job out of the spool and, where jobs are kept, its file out of the folder; the log of jobs and the metrics have it as removed."""
     with Desk(keeps=True) as desk:
@@ -223,7 +300,8 @@ def all_failed_files():
         return "all of a queue, and all"
 
 
-SCENES = [jobs_of_two_hosts, an_arriving_job, what_would_help, files_of_jobs, files_whose_jobs_have_other_numbers, removed_by_its_number, a_failed_file, all_failed_files, a_job_that_waits_for_pages]
+SCENES = [jobs_of_two_hosts, an_arriving_job, what_would_help, files_of_jobs, files_whose_jobs_have_other_numbers, jobs_of_as_many_files_as_may_be, one_behind_a_thousand,
+          removed_by_its_number, a_failed_file, all_failed_files, a_job_that_waits_for_pages]
 
 
 if __name__ == "__main__":

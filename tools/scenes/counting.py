@@ -5,6 +5,7 @@ Files are taken away and put there by other hands. Each scene is bounded in time
 file system, and so is left out where that isn't allowed. A line says what was seen; the last line is 'N passed, M failed'."""
 import contextlib
 import os
+import re
 import shutil
 import socket
 import subprocess
@@ -12,8 +13,8 @@ import sys
 import time
 import urllib.request
 
-from cancelling import LONG, Desk
-from client import begin, free_port, send
+from cancelling import LONG, Desk, send_files
+from client import begin, finish, free_port, send
 from keeping import Room, small_disk
 from scene import PROGRAM, check, main
 
@@ -197,6 +198,90 @@ def what_is_no_job_is_not_resent():
         return "six are refused, and one is sent"
 
 
+def a_lock_that_is_not_opened():
+    """Neither a start nor check has a folder whose lock is there and can't be opened: it isn't known whether a server has it. No lock at all is none."""
+    with Counted() as desk:
+        for word, purpose in (("--spool", "kept"), ("--account", "account")):
+            folder = f"{desk.folder}/{purpose}"
+            os.makedirs(folder)
+            lines = [[PROGRAM, "check", f"{desk.folder}/spool.toml", word, folder],
+                     [PROGRAM, "serve", f"{desk.folder}/spool.toml", "--port", str(free_port()), "--out", desk.folder, "--keep-room", word, folder]]
+            ran = subprocess.run(lines[0], capture_output=True, text=True, timeout=10)
+            check(ran.returncode == 0 and os.listdir(folder) == [], ran)
+            # A link to itself leads nowhere.
+            os.symlink("lock", f"{folder}/lock")
+            for line in lines:
+                ran = subprocess.run(["timeout", "8", *line], capture_output=True, text=True, timeout=10)
+                why = ran.stderr.splitlines()
+                check(ran.returncode == 4 and "Too many levels of symbolic links" in why[-2] and why[-1] == f"fault 73 WriteFile {folder}", f"{word}: {ran}")
+            # A lock that is a folder, or a pipe, isn't one.
+            for make in (os.mkdir, os.mkfifo):
+                os.remove(f"{folder}/lock")
+                make(f"{folder}/lock")
+                for line in lines:
+                    ran = subprocess.run(["timeout", "8", *line], capture_output=True, text=True, timeout=10)
+                    why = ran.stderr.splitlines()
+                    check(ran.returncode == 4 and "its lock is no file" in why[-2] and why[-1] == f"fault 73 WriteFile {folder}", f"{word}: {ran}")
+                if make is os.mkdir:
+                    os.rmdir(f"{folder}/lock")
+                    os.symlink("lock", f"{folder}/lock")
+        return ran.stderr.splitlines()[-2]
+
+
+def how_long_jobs_took():
+    """A job's time to arrive is counted until it was whole, and its time to be printed from then on: neither has the other's. Each is told in the metrics, by its sum
+    and by how many there were."""
+    with Counted() as desk:
+        desk.start()
+
+        def times():
+            page = desk.page("/metrics")
+            return [float(re.search(rf"(?m)^hurgwaye_job_{what}_seconds_{sum_or_count} ([\d.]+)$", page)[1]) for what in ("arriving", "printing")
+                    for sum_or_count in ("sum", "count")]
+
+        check(times() == [0, 0, 0, 0], times())
+        with contextlib.closing(begin(desk.port, 1, 8, b"half")) as peer:
+            time.sleep(3)
+            check(finish(peer, 1, b"half") == 0, "it isn't taken")
+        until(20, lambda: times()[3] == 1, times)
+        arriving, came, printing, printed = times()
+        check(arriving >= 3 and printing < 2 and came == 1, f"arrived in {arriving} s, and printed in {printing} s")
+        before, arriving = printing, -arriving
+        desk.send(2, LONG)
+        time.sleep(3)
+        with open(f"{desk.folder}/printer-1", "rb") as pipe:
+            octets = b""
+            while len(octets) < 8 + len(LONG):
+                octets += pipe.read1(65536)
+            until(20, lambda: times()[3] == 2, times)
+        arriving, printing = arriving + times()[0], times()[2] - before
+        check(arriving < 2 and printing >= 3 and times()[1] == 2, f"arrived in {arriving} s, and printed in {printing} s")
+        return f"{printing:.1f} s of printing"
+
+
+def each_queue_has_its_part():
+    """As many jobs of a queue whose printer takes nothing come to the spool as have room in its part, by the pages of all their files and by the rows of the table, and the
+    others wait in the folder; and so after the next start. (Its part is 128 pages and 4 rows.)"""
+    page = 4096
+    for files, come in (([64], 2), ([43], 2), ([1] * 43, 2), ([20, 22], 3), ([20], 4)):
+        with Counted() as desk:
+            desk.start()
+            # What the pipe takes is of the first one alone.
+            for number in range(1, come + 3):
+                send_files(desk.port, number, [b"x" * (pages * page) for pages in files])
+                told = desk.await_status(f"kept waiting {max(0, number - come)} failed 0")
+            for again in (False, True):
+                if again:
+                    desk.kill()
+                    desk.start()
+                until(10, lambda: (told := desk.tell("status")).count("\njob ") == come and "kept waiting 2 failed 0" in told, lambda: f"{files}: {desk.tell('status')}")
+                # (nothing comes to the spool later)
+                time.sleep(0.3)
+                told = desk.tell("status")
+                check(told.count("\njob ") == come and "kept waiting 2 failed 0" in told, f"{files}, {'a start' if again else 'as they came'}: {told}")
+    return "by pages and by rows"
+
+
 def a_lock_is_deleted():
     """A second server doesn't get a folder whose lock was deleted, nor does check; once the first one has ended it does."""
     with Counted() as desk:
@@ -346,6 +431,7 @@ def a_stop_behind_a_stop():
 
 
 SCENES = [a_failed_file_is_deleted, a_waiting_file_is_deleted, each_queue_s_waiting_jobs, what_a_stop_leaves_is_counted, a_job_whose_file_is_gone, what_is_put_there_is_not_written_over, what_is_no_job_is_not_resent, a_lock_is_deleted, an_accounts_lock_is_deleted,
+          a_lock_that_is_not_opened, how_long_jobs_took, each_queue_has_its_part,
           numbers_that_no_job_has, a_temporary_that_is_a_folder, a_job_that_is_not_kept_is_logged_once, what_is_fed_is_not_lost, a_stop_behind_a_stop]
 
 

@@ -389,6 +389,49 @@ def changed_files_are_not_printed():
         return f"{len(others)} changed files are told, and stay"
 
 
+def whole_files_of_any_length():
+    """Kept jobs whose files have any length about a page of the spool, and about what is read of a file at a time, are printed by the next start: none is told as changed."""
+    for page in (4096, 65_536):
+        lengths = sorted({max(1, base + more) for base in (0, 4096, 16_384, 32_768, 65_536, 131_072) for more in (-1, 0, 1, 2)})
+        with Room(config=CONFIG.replace("page_size = 4096", f"page_size = {page}")) as room:
+            room.start()
+            room.tell("hold", "lp")
+            jobs = [bytes([65 + at]) * length for at, length in enumerate(lengths)]
+            for number, octets in enumerate(jobs, 1):
+                check(send(room.port, number, octets) == 0, f"a job of {len(octets)} octets isn't taken")
+            room.kill()
+            check(len(room.files("job")) == len(jobs), room.files("job"))
+            room.start()
+            room.tell("release", "lp")
+            room.await_files(0)
+            check(room.printed() == b"".join(jobs), f"pages of {page}: {len(room.printed())} octets are printed, and not {sum(lengths)}")
+            check(CHANGED not in room.log() and not room.files("failed"), room.log())
+    return f"{len(lengths)} lengths, with two sizes of a page"
+
+
+def a_hold_s_file_is_made_anew():
+    """Whatever a crash left of the file that is to say which queues are held, it says just that once the hold is answered, and so does the next start."""
+    left = b"plotter\nbad\nlp\n" * 9
+    with Room() as room:
+        os.makedirs(room.kept)
+        said, temporary = f"{room.kept}/held", f"{room.kept}/held.tmp"
+        for words, held in ((("hold", "lp"), b"lp\n"), (("hold", "bad"), b"lp\nbad\n"), (("release", "lp"), b"bad\n"), (("release", "bad"), b"")):
+            with open(temporary, "wb") as file:
+                file.write(left)
+            room.start()
+            told = room.tell(*words)
+            check(told == "", f"{words}: {told}")
+            check(open(said, "rb").read() == held and not os.path.exists(temporary), f"{words}: {open(said, 'rb').read()}")
+            room.kill()
+            room.start()
+            told = room.tell("status")
+            names = "".join(f"{name}\n" for name in re.findall(r"(?m)^queue (\S+) held$", told)).encode()
+            check(names == held, f"{words}, and a start: {told}")
+            room.kill()
+        check("isn't in the configuration" not in room.log(), room.log())
+    return "as it was told last"
+
+
 def many_kept_jobs():
     """A start with 1,000 kept jobs of 64 KiB that have room: how long it takes until it listens and answers."""
     config = CONFIG.replace("pages = 256", "pages = 20000").replace("max_jobs = 64", "max_jobs = 1024").replace("limit = 128", "limit = 64")
@@ -503,7 +546,8 @@ def stopped_now_amid_a_job():
         return "it was printed after the next start"
 
 
-SCENES = [killed_once, a_second_server, a_failed_job_is_sent_again, a_job_is_removed, files_that_are_no_jobs, changed_files_are_not_printed, a_full_disk,
+SCENES = [killed_once, a_second_server, a_failed_job_is_sent_again, a_job_is_removed, files_that_are_no_jobs, changed_files_are_not_printed,
+          whole_files_of_any_length, a_hold_s_file_is_made_anew, a_full_disk,
           a_read_only_disk, a_folder_that_goes_away, stopped_now_amid_a_job, many_kept_jobs, killed_at_random]
 
 

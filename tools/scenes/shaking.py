@@ -143,7 +143,7 @@ SHIFTED = r"""
 #include <sys/time.h>
 #include <time.h>
 #include <unistd.h>
-/* The clock that people read is behind or ahead by so many seconds as the link named by CLOCK_SHIFT says. */
+/* The clock that people read is behind or ahead by so many seconds as the link named by CLOCK_SHIFT says; with ALL_CLOCKS so is each other one. */
 static long shift(void) {
     char text[32];
     const char *path = getenv("CLOCK_SHIFT");
@@ -154,7 +154,7 @@ static long shift(void) {
 }
 int clock_gettime(clockid_t id, struct timespec *now) {
     int answer = syscall(SYS_clock_gettime, id, now);
-    if (answer == 0 && id == CLOCK_REALTIME) now->tv_sec += shift();
+    if (answer == 0 && (id == CLOCK_REALTIME || getenv("ALL_CLOCKS"))) now->tv_sec += shift();
     return answer;
 }
 int gettimeofday(struct timeval *now, void *zone) {
@@ -166,8 +166,8 @@ int gettimeofday(struct timeval *now, void *zone) {
 
 
 @contextlib.contextmanager
-def a_clock():
-    """The environment of a process whose clock can be shifted, and what shifts it by so many seconds."""
+def a_clock(**more):
+    """The environment of a process, with more of it, whose clock can be shifted, and what shifts it by so many seconds."""
     needs("cc")
     with tempfile.TemporaryDirectory() as folder:
         with open(f"{folder}/shifted.c", "w") as file:
@@ -179,7 +179,7 @@ def a_clock():
             os.replace(f"{folder}/new", f"{folder}/shift")
 
         shift(0)
-        yield {**os.environ, "LD_PRELOAD": f"{folder}/shifted.so", "CLOCK_SHIFT": f"{folder}/shift"}, shift
+        yield {**os.environ, "LD_PRELOAD": f"{folder}/shifted.so", "CLOCK_SHIFT": f"{folder}/shift", **more}, shift
 
 
 def a_clock_that_jumps():
@@ -215,6 +215,32 @@ def a_clock_that_jumps():
     years = {line[:4] for line in log.splitlines() if re.match(r"\d{4}-\d\d-\d\dT", line)}
     check(len(years) >= 3, f"the log's years: {years}")
     return f"{number} jobs, the slowest took {slowest:.2f} s; {len(segments)} segments; the log's years: {' '.join(sorted(years))}"
+
+
+@contextlib.contextmanager
+def a_printer_that_is_off():
+    """The place of a printer on the network that refuses connections."""
+    with socket.socket() as off:
+        off.bind(("127.0.0.1", free_port()))
+        yield "socket://127.0.0.1:%d" % off.getsockname()[1]
+
+
+def a_full_account_is_told_once_a_minute():
+    """While an account has no room, and jobs ask for some, the log tells it once a minute, each time for how long that is."""
+    with a_clock(ALL_CLOCKS="1") as (environment, shift), a_printer_that_is_off() as place:
+        with Server(PROGRAM, spool(account=3_000, limit=4, jobs=8), "--keep-room", "--printer", f"1={place}", device=None, env=environment) as server:
+            answers = [send(server.port, number, b"a page") for number in range(5)]
+            check(answers[0] == 0 and answers[-1] == 2, answers)
+            told = []
+            for seconds in range(15, 256, 15):
+                shift(seconds)
+                # (a job that comes all at once is let in without a look)
+                for _ in range(4):
+                    check(send(server.port, 9, b"a page") == 2, "a job is taken")
+                told = [int(it) for it in re.findall(r"the account has had no room for (\d+) s: jobs are refused until held ones have gone\n", server.log())]
+                check(max(0, seconds - 30) // 60 <= len(told) <= (seconds + 10) // 60, f"after {seconds} s: {told}")
+            check(all(60 * minute <= at < 60 * minute + 30 for minute, at in enumerate(told, 1)), told)
+    return f"after {', '.join(map(str, told))} s"
 
 
 @contextlib.contextmanager
@@ -395,7 +421,7 @@ def a_full_lobby():
         resource.setrlimit(resource.RLIMIT_NOFILE, (soft, hard))
 
 
-SCENES = (too_few_descriptors, little_memory, a_clock_that_jumps, a_disk_that_becomes_read_only, handshakes_left_half_open, a_full_lobby)
+SCENES = (too_few_descriptors, little_memory, a_clock_that_jumps, a_full_account_is_told_once_a_minute, a_disk_that_becomes_read_only, handshakes_left_half_open, a_full_lobby)
 
 if __name__ == "__main__":
     sys.exit(main(SCENES, __doc__, measured=(little_memory,)))

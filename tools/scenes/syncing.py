@@ -183,15 +183,18 @@ def a_job_that_is_sent_again_is_synced():
         return ", ".join(calls)
 
 
-def refuses(call):
-    """A job whose sync fails is answered by 02, leaves no file, and isn't printed; the next one is taken."""
+def refuses(*calls, at):
+    """A job at whose sync, or new name, the disk fails is answered by 02, leaves no file, and isn't printed; one line of the log tells it, with the file that is there
+    then, or the folder; the next job is taken."""
     with Watched() as room:
         room.start()
-        with room.watch(call):
+        with room.watch(*calls):
             octet = send(room.port, 1, b"unsynced")
             check(octet == 2, f"answered by {octet}")
         check(not room.files("job") and not room.files("tmp"), room.files("*"))
         room.await_log("Input/output error")
+        lines = re.findall(r": (a job isn't kept: .*)", room.log())
+        check(lines == [f"a job isn't kept: {room.kept}{at}: Input/output error (os error 5)"], room.log())
         check(send(room.port, 2, b"synced") == 0, "it goes on")
         room.await_files(0)
         check(room.printed() == b"synced", room.printed())
@@ -199,11 +202,15 @@ def refuses(call):
 
 
 def a_file_s_sync_fails():
-    return refuses("fdatasync")
+    return refuses("fdatasync", at="/1.tmp")
+
+
+def a_file_s_new_name_fails():
+    return refuses("rename", "renameat", "renameat2", at="/1.tmp")
 
 
 def the_folder_s_sync_fails():
-    return refuses("fsync")
+    return refuses("fsync", at="")
 
 
 def a_segment_is_synced():
@@ -239,4 +246,4 @@ if __name__ == "__main__":
         raise SystemExit("strace isn't there")
     sys.exit(main([a_job_is_synced_before_it_is_acknowledged, a_start_syncs_the_folder, a_new_folder_s_own_name_is_synced,
                    what_is_printed_is_synced_before_the_job_goes, a_printer_waits_for_no_removal, a_job_that_is_sent_again_is_synced, a_file_s_sync_fails,
-                   the_folder_s_sync_fails, a_segment_is_synced, a_segment_s_sync_fails], __doc__))
+                   a_file_s_new_name_fails, the_folder_s_sync_fails, a_segment_is_synced, a_segment_s_sync_fails], __doc__))
