@@ -88,11 +88,11 @@ impl<R: Files<File = File> + Clock + Log + Wait, E: HouseLedger, S: PrintSink + 
     }
 
     /// A page of this job is to be written. Where the job only now begins that is a try of its printer, whoever started that: what fails of it
-    /// from here on fails, and wasn't put back.
+    /// from here on fails, and wasn't put back. A job whose file isn't known yet is noted at its next turn: since when its printer was tried before
+    /// isn't forgotten for that.
     fn note_try(&self, job: u64) {
-        let (hall, printer) = (self.house.hall, self.printer);
-        if self.job != Some(job) && self.house.first_try(printer, job).is_none() {
-            hall.put_offs.end(hall.rt, printer);
+        if self.job != Some(job) {
+            let _ = self.house.first_try(self.printer, job);
         }
     }
 
