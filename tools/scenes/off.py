@@ -528,6 +528,29 @@ def a_pipe_that_is_read_in_part():
     return "it stayed, and was printed once"
 
 
+def a_printer_is_tried_by_one_job():
+    """A printer that isn't reached has given four jobs back: at its next tries the spool has one of them at a time, whichever it is, and its pauses grow."""
+    printer = Printer()
+    with Room(config(queues=2, pages=64, jobs=16, account=100_000, limit=20), f"--printer=1=socket://127.0.0.1:{printer.port}") as room:
+        room.start()
+        for number in range(4):
+            check(send(room.port, number, job("q1", 0, number), "q1", f"127.0.0.{9 + number}") == 0, f"job {number} isn't taken")
+        while "\njob " in await_status(room, "parked q1 4"):
+            time.sleep(0.05)
+        begun, most, tries, was = time.monotonic(), 0, [], 0
+        while time.monotonic() < begun + 22 and len(tries) < 2:
+            held = sum(line.startswith("job ") for line in room.tell("status").splitlines())
+            if held and not was:
+                tries.append(time.monotonic() - begun)
+            most, was = max(most, held), held
+            time.sleep(0.03)
+        check(most == 1, f"{most} jobs at once")
+        check(len(tries) == 2 and tries[1] - tries[0] > 9, f"tries after {tries}")
+        printer.turn_on()
+        room.await_files(0, 60)
+    return f"tries after {tries[0]:.0f} and {tries[1]:.0f} s"
+
+
 def patience_across_tries():
     """A job that isn't reached for `--patience` minutes in all fails, though it is tried again and again, and the one behind it has its own time."""
     printer = Printer()
@@ -540,7 +563,7 @@ def patience_across_tries():
             check(time.monotonic() < begun + 150, f"none has failed: {room.log()[-800:]}")
             time.sleep(0.2)
         took = time.monotonic() - begun
-        check(took > 55, f"failed after {took:.0f} s")
+        check(55 < took < 130, f"failed after {took:.0f} s")
         check([os.path.basename(it) for it in room.files("failed")] == ["1.failed"] and len(room.files()) == 1, f"{room.files()} {room.files('failed')}")
         # The next one's time begins with its own first try.
         room.tell("start", "q1")
@@ -554,7 +577,7 @@ def patience_across_tries():
 
 SCENES = [a_pool_that_one_printer_could_fill, a_printer_that_gives_its_jobs_back, a_queue_of_two_printers, stops_beside_a_printer_that_is_off,
           a_queue_that_is_held_amid_a_job, a_full_pipe, a_job_that_was_given_back_keeps_its_file, one_of_two_printers_keeps_its_job, a_printer_that_failed_before,
-          a_printer_that_goes_off, a_pipe_that_is_read_in_part, printers_that_are_off, killed_beside_printers_that_are_off]
+          a_printer_that_goes_off, a_pipe_that_is_read_in_part, a_printer_is_tried_by_one_job, printers_that_are_off, killed_beside_printers_that_are_off]
 
 
 if __name__ == "__main__":
