@@ -109,6 +109,8 @@ CONFIGURATIONS = {
     "a-place-at-a-name": HEAD + queue() + queue('"b"', places='["socket://printer"]'),
     "a-place-at-no-port": HEAD + queue() + queue('"b"', places='["socket://127.0.0.1:0"]'),
     "no-keys": "pagse = 1\n" + HEAD + queue() + "Limit = 3\n" + queue('"b"') + '"a b" = 1\n',
+    "no-keys-behind-another-table": HEAD + "[other]\nLimit = 1\n" + queue() + "Limit = 3\n[other.more]\nname = 1\n" + queue('"b"') + "Limit = 3\n",
+    "a-limit-behind-another-table": HEAD + "[other]\nlimit = 1\n" + queue() + "[other.more]\nlimit = 65\n" + queue('"b"', "0"),
     "no-keys-of-20": "".join(f"key{number} = 1\n" for number in range(20)) + HEAD + queue(),
     "a-small-account": head(account="300") + queue() + queue('"b"', "1"),
 }
