@@ -6,6 +6,7 @@ line is 'N passed, M failed'."""
 import contextlib
 import os
 import shutil
+import socket
 import string
 import sys
 import time
@@ -227,6 +228,38 @@ def one_behind_a_thousand():
         return "both"
 
 
+def a_thousand_are_sent_again():
+    """Of 1,003 jobs that failed `resend all` names the first thousand, in the order of their files, and tells how many more there are; one that can't be sent again is told
+    beside them. All wait then."""
+    with Desk(keeps=True) as desk:
+        desk.start()
+        desk.says("hold lp", "")
+        send_files(desk.port, 1, [b"y"], "ann")
+        desk.await_status("kept waiting 1 failed 0")
+        desk.kill()
+        for at in range(2, 1_006):
+            shutil.copy(f"{desk.kept}/1.job", f"{desk.kept}/{at}.failed")
+        # (there is a job of this number already: nothing is replaced)
+        shutil.copy(f"{desk.kept}/1.job", f"{desk.kept}/700.job")
+        desk.start()
+        desk.await_status("kept waiting 2 failed 1004")
+        # (where each takes its sync of the folder that may be longer than `control` waits)
+        with socket.socket(socket.AF_UNIX) as peer:
+            peer.settimeout(90)
+            peer.connect(f"{desk.folder}/control")
+            peer.sendall(b"resend all\n")
+            told = peer.makefile("rb").read().decode().splitlines()
+        check(told.pop() == "end done", told[-1:])
+        sent = [at for at in range(2, 1_006) if at != 700]
+        # (the one that isn't sent is one of the first thousand)
+        check([line for line in told if line.startswith("resent ")] == [f"resent file {at} (001) ann@h1 of lp" for at in sent][:999], told[:2] + told[-4:])
+        check(len([line for line in told if line.startswith("file 700 isn't resent: ")]) == 1, [line for line in told if "700" in line])
+        check(told[-1] == ".. and 4 more" and len(told) == 1_001, told[-2:])
+        desk.await_status("kept waiting 1005 failed 1")
+        check(desk.files("failed") == ["700.failed"], desk.files("failed"))
+        return "999, one that isn't, and four more"
+
+
 def removed_by_its_number():
     """`remove` takes a job out of the spool and, where jobs are kept, its file out of the folder; the log of jobs and the metrics have it as removed."""
     with Desk(keeps=True) as desk:
@@ -301,6 +334,7 @@ def all_failed_files():
 
 
 SCENES = [jobs_of_two_hosts, an_arriving_job, what_would_help, files_of_jobs, files_whose_jobs_have_other_numbers, jobs_of_as_many_files_as_may_be, one_behind_a_thousand,
+          a_thousand_are_sent_again,
           removed_by_its_number, a_failed_file, all_failed_files, a_job_that_waits_for_pages]
 
 
