@@ -213,6 +213,24 @@ def the_folder_s_sync_fails():
     return refuses("fsync", at="")
 
 
+def a_file_that_is_not_synced_stays():
+    """Where a job's file can be neither synced nor removed, the log tells why the job isn't kept, and not why its file stays; the next start removes it."""
+    with Watched() as room:
+        room.start()
+        with room.watch("fdatasync", "unlink:error=EROFS", "unlinkat:error=EROFS"):
+            octet = send(room.port, 1, b"unsynced")
+            check(octet == 2, f"answered by {octet}")
+        room.await_log("a job isn't kept")
+        lines = re.findall(r": (a job isn't kept: .*)", room.log())
+        check(lines == [f"a job isn't kept: {room.kept}/1.tmp: Input/output error (os error 5)"], room.log())
+        check(room.files("tmp") == ["1.tmp"] and not room.files("job"), room.files("*"))
+        room.kill()
+        room.start()
+        check(not room.files("tmp"), room.files("*"))
+        check(room.printed() == b"", room.printed())
+    return "told, and gone"
+
+
 def a_segment_is_synced():
     """A segment's file is synced, then gets its name, and then the folder is synced."""
     with WatchedBooks("--rotate", "40") as room:
@@ -246,4 +264,4 @@ if __name__ == "__main__":
         raise SystemExit("strace isn't there")
     sys.exit(main([a_job_is_synced_before_it_is_acknowledged, a_start_syncs_the_folder, a_new_folder_s_own_name_is_synced,
                    what_is_printed_is_synced_before_the_job_goes, a_printer_waits_for_no_removal, a_job_that_is_sent_again_is_synced, a_file_s_sync_fails,
-                   a_file_s_new_name_fails, the_folder_s_sync_fails, a_segment_is_synced, a_segment_s_sync_fails], __doc__))
+                   a_file_s_new_name_fails, a_file_that_is_not_synced_stays, the_folder_s_sync_fails, a_segment_is_synced, a_segment_s_sync_fails], __doc__))

@@ -104,11 +104,8 @@ fn furnish<'a, R: Host>(
     }
 }
 
-/// Opens all that a server of these settings and this configuration has, and listens: what its threads share beside its spool, and what
-/// single ones own. `counter` is what reaches it beside its clients.
-///
-/// Opening with the first that can't be opened, of which the log is told why too; Memory.
-pub(crate) fn prepare<'a, R: Host>(
+/// As `prepare`, and the settings stay with who asks.
+fn open_and_listen<'a, R: Host>(
     rt: &'a R,
     alloc: Global,
     settings: &mut Settings<'a>,
@@ -142,4 +139,21 @@ pub(crate) fn prepare<'a, R: Host>(
         (settings, config),
     );
     Ok((hall, boxed(alloc, entrance)?))
+}
+
+/// Opens all that a server of these settings and this configuration has, and listens: what its threads share beside its spool, and what
+/// single ones own. `counter` is what reaches it beside its clients.
+///
+/// Opening with the first that can't be opened, of which the log is told why too; Memory.
+pub(crate) fn prepare<'a, R: Host>(
+    rt: &'a R,
+    alloc: Global,
+    settings: Settings<'a>,
+    config: &Config,
+    counter: Counter,
+) -> Result<(Box<Hall<'a, R>>, Box<Entrance>), StartFault> {
+    let mut settings = settings;
+    let prepared = open_and_listen(rt, alloc, &mut settings, config, counter);
+    settings.let_go();
+    prepared
 }

@@ -65,14 +65,12 @@ where
 {
     let Plan {
         config,
-        mut settings,
+        settings,
         counter,
     } = plan;
     let seats = sessions_of(&settings) + OTHERS;
     warn_of(rt, &settings, &config);
-    let prepared = prepare(rt, alloc, &mut settings, &config, counter);
-    settings.let_go();
-    let (hall, entrance) = match prepared {
+    let (hall, entrance) = match prepare(rt, alloc, settings, &config, counter) {
         Ok(prepared) => prepared,
         Err(StartFault::Memory) => return Err(ServerFault::Memory),
         Err(StartFault::Opening(opening)) => return Err(ServerFault::Opening(opening)),
