@@ -21,7 +21,8 @@ use shared_spool::Blanks;
 use std::alloc::Global;
 use std::marker::Brand;
 
-/// What a server is to be. It goes to `serve`, and is let go there.
+/// What a server is to be.
+#[derive(Drop)]
 pub struct Plan<'a> {
     pub config: Config,
     pub settings: Settings<'a>,
