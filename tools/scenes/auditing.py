@@ -18,7 +18,7 @@ import tempfile
 import threading
 import time
 
-from client import connect, free_port, send, spool
+from client import begin, connect, free_port, send, spool
 from keeping import small_disk
 from scene import PROGRAM, check, main, size
 
@@ -472,6 +472,35 @@ def what_was_used():
         return "all columns"
 
 
+def an_aborted_job_is_over():
+    """A job that was given up before it was whole counts in the segment in which that was, also where that isn't the last one of its run."""
+    with Books() as room:
+        room.start()
+        check(send(room.port, 1, b"x" * 10) == 0, "a job is taken")
+        with contextlib.closing(begin(room.port, 2, 5_000, b"y" * 4_500, host="127.0.0.2")):
+            until = time.monotonic() + 20
+            while " 2 of 2 pages came" not in (told := room.tell("status")):
+                check(time.monotonic() < until, told)
+                time.sleep(0.05)
+        # (times of segments are seconds: the second one begins later than the first)
+        time.sleep(1.1)
+        until = time.monotonic() + 20
+        while "rotated" not in (told := room.tell("rotate")):
+            check(time.monotonic() < until, told)
+            time.sleep(0.1)
+        room.await_segments(1)
+        begun = open(room.segments()[0]).readline().split()[4]
+        check(send(room.port, 3, b"z" * 20) == 0, "a job is taken")
+        time.sleep(1.1)
+        room.stop()
+        ran = subprocess.run([PROGRAM, "usage", *room.segments(), "--until", begun], capture_output=True, text=True, timeout=60)
+        check(ran.stdout == "ann jobs 1 sent 10 printed 10\n- jobs 1 sent 4096 printed 0\n", f"{begun}: {ran.stdout}{ran.stderr}")
+        ended = open(room.segments()[1]).readline().split()[5]
+        ran = subprocess.run([PROGRAM, "usage", *room.segments(), "--since", ended], capture_output=True, text=True, timeout=60)
+        check(ran.stdout == "ann jobs 1 sent 20 printed 20\n", f"{ended}: {ran.stdout}{ran.stderr}")
+    return "once"
+
+
 def an_empty_file_is_no_segment():
     """An empty file is refused wherever it stands: alone, first, between two segments, and last."""
     with tempfile.TemporaryDirectory() as folder:
@@ -682,7 +711,8 @@ def write_segment(path, run, previous, entries):
     return count
 
 
-SCENES = [written_and_audited, changed_files_are_told, folders, folders_of_version_1, what_was_used, an_empty_file_is_no_segment, names_are_no_formulas, a_printer_that_moves,
+SCENES = [written_and_audited, changed_files_are_told, folders, folders_of_version_1, what_was_used, an_aborted_job_is_over, an_empty_file_is_no_segment,
+          names_are_no_formulas, a_printer_that_moves,
           pipes_in_the_place_of_files, a_last_segment_that_goes_on, a_start_goes_on_behind_the_last, a_full_disk, hostile_files, a_long_account]
 
 if __name__ == "__main__":

@@ -187,6 +187,24 @@ def folders_are_told():
     return "five lines"
 
 
+def a_folder_of_many_files():
+    """The folder of a printer with a thousand files of jobs and three hundred hidden ones: all of these are told, and the next job is the next behind the greatest."""
+    with tempfile.TemporaryDirectory() as room:
+        os.mkdir(f"{room}/pages")
+        for number in range(1, 1_001):
+            open(f"{room}/pages/job-{number:010}", "w").close()
+        for number in range(300):
+            open(f"{room}/pages/.job-{number}-1", "w").close()
+        with Server(PROGRAM, spool(account=100_000, limit=4), "--printer", f"lp=folder:{room}/pages", "--keep-room") as it:
+            has_line(it, "[WARN  printer_devices::places] DIR/pages: 300 hidden files of jobs were left there, which were not printed to their ends")
+            check(send(it.port, 1, b"hello world") == 0, "the job isn't taken")
+            until = time.monotonic() + 10
+            while not os.path.exists(f"{room}/pages/job-0000001001"):
+                check(time.monotonic() < until, sorted(name for name in os.listdir(f"{room}/pages") if name.startswith("job"))[-2:])
+                time.sleep(0.05)
+    return "all, and the next"
+
+
 def the_account_has_no_room():
     """With --keep-room, a held job that needs all of the account."""
     with socket.socket() as off:
@@ -205,7 +223,8 @@ def the_account_has_no_room():
     return "one line"
 
 
-SCENES = [refusals_name_their_job, connections_are_told, a_warning_that_comes_again, an_end_waits_for_lines_alone, no_descriptor_is_left, printers_are_told, folders_are_told]
+SCENES = [refusals_name_their_job, connections_are_told, a_warning_that_comes_again, an_end_waits_for_lines_alone, no_descriptor_is_left, printers_are_told, folders_are_told,
+          a_folder_of_many_files]
 
 # Told after a minute.
 LONG = [the_account_has_no_room]
