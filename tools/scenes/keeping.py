@@ -10,6 +10,7 @@ import random
 import re
 import signal
 import socket
+import struct
 import subprocess
 import sys
 import tempfile
@@ -389,6 +390,51 @@ def changed_files_are_not_printed():
         return f"{len(others)} changed files are told, and stay"
 
 
+class Resetting(threading.Thread):
+    """A printer on the network that takes little of a job, and resets its connection when it is told to."""
+
+    def __init__(self):
+        super().__init__(daemon=True)
+        self.there, self.resets = socket.socket(), threading.Event()
+        # (what the system takes beside it is less than a job)
+        self.there.setsockopt(socket.IPPROTO_TCP, socket.TCP_MAXSEG, 536)
+        self.there.setsockopt(socket.SOL_SOCKET, socket.SO_RCVBUF, 4096)
+        self.there.bind(("127.0.0.1", 0))
+        self.there.listen(4)
+        self.place = "socket://127.0.0.1:%d" % self.there.getsockname()[1]
+        self.start()
+
+    def run(self):
+        while True:
+            peer, _ = self.there.accept()
+            peer.recv(1000)
+            self.resets.wait()
+            peer.setsockopt(socket.SOL_SOCKET, socket.SO_LINGER, struct.pack("ii", 1, 0))
+            peer.close()
+
+
+def a_stopped_queue_has_none_in_the_spool():
+    """Once a queue's only printer has failed at a job, those behind it that the spool had taken already wait in the folder again, which is told, and none stays in the
+    spool."""
+    printer = Resetting()
+    with Room("--printer", f"1={printer.place}") as room:
+        room.start()
+        for number, octets in ((1, b"x" * 400_000), (2, b"y" * 100)):
+            check(send(room.port, number, octets, host=f"127.0.0.{number + 1}") == 0, f"job {number} isn't taken")
+        until = time.monotonic() + 3
+        while "\njob 2 lp " not in (told := room.tell("status")):
+            check(time.monotonic() < until, told)
+            time.sleep(0.02)
+        printer.resets.set()
+        room.await_files(1, "failed")
+        room.await_log("1 jobs of queue lp wait in the folder again: all its printers are stopped\n")
+        until = time.monotonic() + 5
+        while "\njob " in (told := room.tell("status")) or "parked lp 1\n" not in told:
+            check(time.monotonic() < until, told)
+            time.sleep(0.05)
+    return "told, and gone"
+
+
 def whole_files_of_any_length():
     """Kept jobs whose files have any length about a page of the spool, and about what is read of a file at a time, are printed by the next start: none is told as changed."""
     for page in (4096, 65_536):
@@ -547,7 +593,7 @@ def stopped_now_amid_a_job():
 
 
 SCENES = [killed_once, a_second_server, a_failed_job_is_sent_again, a_job_is_removed, files_that_are_no_jobs, changed_files_are_not_printed,
-          whole_files_of_any_length, a_hold_s_file_is_made_anew, a_full_disk,
+          whole_files_of_any_length, a_stopped_queue_has_none_in_the_spool, a_hold_s_file_is_made_anew, a_full_disk,
           a_read_only_disk, a_folder_that_goes_away, stopped_now_amid_a_job, many_kept_jobs, killed_at_random]
 
 
