@@ -158,6 +158,20 @@ def stops_wait_for_what_is_printed():
     return "for a job and for a pipe; a rotation is printed before the close"
 
 
+def a_stop_whose_last_line_is_lost():
+    """A server whose last line can't be written any more answers who asked it to stop all the same, by what it ends with."""
+    with Room() as room:
+        reader, writer = os.pipe()
+        room.server = subprocess.Popen(room.line(), stdin=subprocess.DEVNULL, stdout=writer, stderr=open(f"{room.folder}/log", "ab"))
+        os.close(writer)
+        check(os.read(reader, 100).startswith(b"listening "), "it doesn't listen")
+        os.close(reader)
+        told, _ = talk(room, b"stop\n", ends=False)
+        ended = room.server.wait(20)
+        check((told, ended) == (b"end refused fault 73 WriteFile\n", 4), f"{told} {ended}: {room.log()[-300:]}")
+    return "refused, with the fault"
+
+
 def rotations_that_are_refused():
     """A rotation that is refused, since a job is held, gives its place back: after many of them, with an account in files, the next that may be done is."""
     with Room() as room:
@@ -482,7 +496,8 @@ def many_syncs_wake_each():
         return f"{took:.1f} s"
 
 
-SCENES = (signals_that_stop, the_earlier_stop_holds, stops_wait_for_what_is_printed, rotations_that_are_refused, rotations_after_connections_that_are_refused,
+SCENES = (signals_that_stop, the_earlier_stop_holds, stops_wait_for_what_is_printed, a_stop_whose_last_line_is_lost, rotations_that_are_refused,
+          rotations_after_connections_that_are_refused,
           a_rotation_is_printed_at_once, segments_that_wait, who_asked_and_went_gives_place, clients_that_end_their_sending, commands_that_wait, descriptors_that_come_again,
           no_octet_behind_a_stop_now, pauses_begin_anew_behind_a_page, many_syncs_wake_each)
 

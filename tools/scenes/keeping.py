@@ -390,6 +390,34 @@ def changed_files_are_not_printed():
         return f"{len(others)} changed files are told, and stay"
 
 
+def files_that_change_while_they_wait():
+    """A job's file that comes to be something else while the job waits isn't printed when its queue is released: the log tells of each why."""
+    with Room() as room:
+        room.start()
+        room.tell("hold", "lp")
+        for number in range(1, 6):
+            check(send(room.port, number, b"%d" % number, host=f"127.0.0.{number + 1}") == 0, f"job {number} isn't taken")
+        octets = open(f"{room.kept}/3.job", "rb").read()
+        for number, text in ((1, b"x\n" * 100), (3, octets.replace(b"sealed", b"SEALED"))):
+            with open(f"{room.kept}/{number}.job", "wb") as file:
+                file.write(text)
+        os.unlink(f"{room.kept}/2.job")
+        os.mkdir(f"{room.kept}/2.job")
+        os.unlink(f"{room.kept}/4.job")
+        os.symlink("nowhere", f"{room.kept}/4.job")
+        room.tell("release", "lp")
+        for _ in range(200):
+            if room.printed() == b"5":
+                break
+            time.sleep(0.05)
+        check(room.printed() == b"5", room.printed())
+        lines = re.findall(r"\] (.*isn't printed.*)", room.log())
+        stays = "isn't printed, and stays where it is"
+        check(lines == [f"the job in file 1.job {stays}: its file isn't that of a kept job", f"the job in file 2.job {stays}: it is no file",
+                        f"the job in file 3.job {stays}: {CHANGED}", "the job in file 4.job isn't printed: its file is gone"], lines)
+    return f"{len(lines)} lines"
+
+
 class Resetting(threading.Thread):
     """A printer on the network that takes little of a job, and resets its connection when it is told to."""
 
@@ -593,7 +621,7 @@ def stopped_now_amid_a_job():
 
 
 SCENES = [killed_once, a_second_server, a_failed_job_is_sent_again, a_job_is_removed, files_that_are_no_jobs, changed_files_are_not_printed,
-          whole_files_of_any_length, a_stopped_queue_has_none_in_the_spool, a_hold_s_file_is_made_anew, a_full_disk,
+          whole_files_of_any_length, a_stopped_queue_has_none_in_the_spool, files_that_change_while_they_wait, a_hold_s_file_is_made_anew, a_full_disk,
           a_read_only_disk, a_folder_that_goes_away, stopped_now_amid_a_job, many_kept_jobs, killed_at_random]
 
 
