@@ -158,6 +158,25 @@ def stops_wait_for_what_is_printed():
     return "for a job and for a pipe; a rotation is printed before the close"
 
 
+def rotations_after_so_many_connections():
+    """With --rotate 3 the account is rotated before the fourth connection, the seventh, and so on, and not before."""
+    with Room() as room:
+        plain = [word for word in room.line() if word != "--keep-room"]
+        room.line = lambda: [*plain, "--rotate", "3"]
+        room.server = subprocess.Popen(room.line(), stdin=subprocess.DEVNULL, stdout=open(f"{room.folder}/said", "ab"), stderr=open(f"{room.folder}/log", "ab"))
+        while not os.path.exists(f"{room.folder}/said") or "listening" not in open(f"{room.folder}/said").read():
+            time.sleep(0.02)
+        seen = []
+        for _ in range(8):
+            with contextlib.closing(connect(room.port)) as peer:
+                peer.sendall(b"\x03lp\n")
+                while peer.recv(100):
+                    pass
+            seen.append(open(f"{room.folder}/said").read().count("rotated"))
+        check(seen == [0, 0, 0, 1, 1, 1, 2, 2], seen)
+    return "as told"
+
+
 def a_stop_whose_last_line_is_lost():
     """A server whose last line can't be written any more answers who asked it to stop all the same, by what it ends with."""
     with Room() as room:
@@ -496,7 +515,7 @@ def many_syncs_wake_each():
         return f"{took:.1f} s"
 
 
-SCENES = (signals_that_stop, the_earlier_stop_holds, stops_wait_for_what_is_printed, a_stop_whose_last_line_is_lost, rotations_that_are_refused,
+SCENES = (signals_that_stop, the_earlier_stop_holds, stops_wait_for_what_is_printed, rotations_after_so_many_connections, a_stop_whose_last_line_is_lost, rotations_that_are_refused,
           rotations_after_connections_that_are_refused,
           a_rotation_is_printed_at_once, segments_that_wait, who_asked_and_went_gives_place, clients_that_end_their_sending, commands_that_wait, descriptors_that_come_again,
           no_octet_behind_a_stop_now, pauses_begin_anew_behind_a_page, many_syncs_wake_each)

@@ -620,9 +620,36 @@ def stopped_now_amid_a_job():
         return "it was printed after the next start"
 
 
+def stopped_now_amid_a_pipe():
+    """`stop now` in the middle of a job at a pipe that nobody reads: the log tells that its page wasn't taken in time, nothing has failed, and the next start prints it."""
+    with Room() as room:
+        os.mkfifo(f"{room.folder}/printer-1")
+        room.start()
+        check(send(room.port, 1, b"n" * 200_000) == 0, "it is taken")
+        for _ in range(100):
+            if " is at printer 1\n" in room.tell("status"):
+                break
+            time.sleep(0.05)
+        time.sleep(0.5)
+        told = room.tell("stop", "now")
+        check("1 jobs wait in the folder for the next start" in told, told)
+        room.server.wait(10)
+        lines = re.findall(r"\[WARN  lpd_daemon::printing\] printer 1: (.*)", room.log())
+        check(len(lines) == 1 and re.fullmatch(r"job 1, place \d+: timed out", lines[0]), lines)
+        check(len(room.files("job")) == 1 and not room.files("failed"), room.files("*"))
+        room.start()
+        octets = b""
+        with open(f"{room.folder}/printer-1", "rb") as pipe:
+            while len(octets) < 200_000:
+                octets += pipe.read1(65536)
+        check(octets == b"n" * 200_000, len(octets))
+        room.await_files(0)
+        return "it was printed after the next start"
+
+
 SCENES = [killed_once, a_second_server, a_failed_job_is_sent_again, a_job_is_removed, files_that_are_no_jobs, changed_files_are_not_printed,
           whole_files_of_any_length, a_stopped_queue_has_none_in_the_spool, files_that_change_while_they_wait, a_hold_s_file_is_made_anew, a_full_disk,
-          a_read_only_disk, a_folder_that_goes_away, stopped_now_amid_a_job, many_kept_jobs, killed_at_random]
+          a_read_only_disk, a_folder_that_goes_away, stopped_now_amid_a_job, stopped_now_amid_a_pipe, many_kept_jobs, killed_at_random]
 
 
 if __name__ == "__main__":

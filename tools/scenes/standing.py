@@ -109,6 +109,23 @@ class Halting:
                 self.kept.append(peer)
 
 
+def as_many_sessions_as_are_asked_for():
+    """With `--sessions 2` just two connections that bring jobs are served at a time, and the others wait; who asks is answered beside them."""
+    with served(spool(), "--sessions", "2") as it:
+        with contextlib.ExitStack() as peers:
+            for number in range(1, 6):
+                peer = peers.enter_context(contextlib.closing(connect(it.port, f"127.0.0.{number}")))
+                peer.sendall(b"\x02lp\n")
+            until(20, "three wait", lambda: "\nlobby 3\n" in ask(it, "status"))
+            time.sleep(0.3)
+            told = ask(it, "status")
+            check("\nlobby 3\n" in told and told.count("\nsession ") == 2, told)
+            with contextlib.closing(connect(it.port, "127.0.0.9")) as peer:
+                peer.sendall(b"\x03lp\n")
+                check(peer.recv(100).startswith(b"queue lp jobs "), "who asks isn't answered")
+    return "two, and three wait"
+
+
 def idle_and_held():
     """Nothing waits for a person: the page is green. Held, the queue's job waits and the page says so; `status` keeps the printer's word."""
     with served(spool()) as it:
@@ -408,6 +425,7 @@ def kept_jobs_are_called_by_their_files():
 
 
 SCENES = [
+    as_many_sessions_as_are_asked_for,
     idle_and_held,
     a_printer_that_is_not_reached,
     a_printer_that_is_stopped,
