@@ -3,6 +3,7 @@
 
 Each scene is bounded in time, and runs on loopback alone. A line says what was seen; the last line is 'N passed, M failed'."""
 import contextlib
+import glob
 import os
 import re
 import resource
@@ -298,6 +299,31 @@ def segments_that_wait():
     return f"as many as may; stops took {ended[0]:.1f} and {ended[1]:.1f} s"
 
 
+def room_comes_by_itself():
+    """Where room is kept and the account's disk was full until the account was too, jobs are taken again once the disk has room: nobody asks for a rotation, and more segments
+    become files than had waited."""
+    config = 'pages = 64\npage_size = 512\nmax_jobs = 8\naccount = 3000\n[[queue]]\nname = "lp"\nlimit = 3\nprinters = 1\n'
+    with Room(config=config) as room, small_disk(f"{room.folder}/disk", 1):
+        plain = [word for word in room.line() if word not in ("--spool", room.kept)] + ["--account", f"{room.folder}/disk/account"]
+        room.line = lambda: plain
+        room.start()
+        with open(f"{room.folder}/disk/filler", "wb") as file, contextlib.suppress(OSError):
+            file.write(b"x" * (1 << 21))
+        taken = 0
+        while send(room.port, taken % 1000, b"x" * 100) == 0:
+            taken += 1
+            check(taken < 2_000, "each job is taken")
+        check(send(room.port, 999, b"x" * 100) == 2, "a job finds room")
+        os.remove(f"{room.folder}/disk/filler")
+        begun, more = time.monotonic(), 0
+        while more < 2 * taken:
+            more += send(room.port, more % 1000, b"x" * 100) == 0
+            check(time.monotonic() < begun + 40, f"{taken} jobs were taken, and {more} since: {room.log()[-300:]}")
+        segments = len(glob.glob(f"{room.folder}/disk/account/*"))
+        check(segments > 4, f"{segments} files")
+        return f"{taken} jobs before and {more} after, {segments} segments"
+
+
 def who_asked_and_went_gives_place():
     """More clients than there are places ask for a stop that waits for a job, and go before it is answered: others are heard all the same."""
     with Room() as room:
@@ -517,7 +543,7 @@ def many_syncs_wake_each():
 
 SCENES = (signals_that_stop, the_earlier_stop_holds, stops_wait_for_what_is_printed, rotations_after_so_many_connections, a_stop_whose_last_line_is_lost, rotations_that_are_refused,
           rotations_after_connections_that_are_refused,
-          a_rotation_is_printed_at_once, segments_that_wait, who_asked_and_went_gives_place, clients_that_end_their_sending, commands_that_wait, descriptors_that_come_again,
+          a_rotation_is_printed_at_once, segments_that_wait, room_comes_by_itself, who_asked_and_went_gives_place, clients_that_end_their_sending, commands_that_wait, descriptors_that_come_again,
           no_octet_behind_a_stop_now, pauses_begin_anew_behind_a_page, many_syncs_wake_each)
 
 if __name__ == "__main__":

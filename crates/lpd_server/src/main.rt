@@ -16,11 +16,11 @@ use log::{Level, LevelFilter, Log, Logged, error, info};
 use log_lines::{LineLog, LineQueue, LogForm};
 use lpd_commands::OctetWrite;
 use lpd_daemon::{
-    ACCOUNT_LINES, Counter, FOLDER_CAUSES, JOB_LINES, OpenFault, Plan, SHARED_FOLDERS,
+    ACCOUNT_LINES, Counter, FOLDER_CAUSES, JOB_LINES, OpenFault, Plan, SHARED_FOLDERS, ServerFault,
 };
 use program_edge::{
-    CAUSES, FaultName, Settings, StreamReader, StreamWriter, fill_standard_descriptors, tell,
-    tell_cause,
+    CAUSES, FaultName, PlacedPrinter, Settings, StreamReader, StreamWriter,
+    fill_standard_descriptors, tell, tell_cause,
 };
 use program_words::{AuditRequest, ControlRequest, ServeRequest, Unread, UsageRequest};
 use std::alloc::{AllocError, Global};
@@ -35,8 +35,8 @@ use std::time::Duration;
 use std::{io, thread};
 use terminal_writer::TerminalWriter;
 use word_actions::{
-    ActionFault, PLACE_LINES, PROGRESS, ReadSpool, RunOutcome, System, printers_of, remark_on,
-    tell_places,
+    ActionFault, PLACE_LINES, PROGRESS, ReadSpool, RunOutcome, System, ToldPlace, printers_of,
+    remark_on, tell_places,
 };
 
 /// How many lines of the log wait to be written, at most.
@@ -267,6 +267,21 @@ fn refuse<R: Log>(rt: &R, fault: &ActionFault) -> u8
     fault.status()
 }
 
+/// How a server ended, which is told where the log wasn't told yet. Answers the exit status.
+fn status_of<R: Log>(rt: &R, ended: Result<(), ServerFault>) -> u8
+    ensures { result ≤ 5 }
+{
+    match ended {
+        Ok(()) => 0,
+        Err(fault) => {
+            if !fault.is_told() {
+                error!(rt; "{fault}");
+            }
+            fault.status()
+        }
+    }
+}
+
 /// Serves the queues of this configuration. The control socket, where the settings name one, is made by `host`, since a logger hands no Unix
 /// sockets on. Answers the exit status.
 fn serve_plan<
@@ -285,29 +300,56 @@ where
     ensures { result ≤ 5 }
 {
     let alloc = host.alloc();
-    let mut output = StreamWriter::new(output);
-    let (counter, socket) = match Counter::open(host, alloc, settings.control) {
-        Ok(opened) => opened,
-        Err(why) => return refuse_control(rt, settings.control, &why),
-    };
-    let plan = Plan {
-        config,
-        settings,
-        counter,
-    };
-    let ended = lpd_daemon::serve(rt, alloc, plan, &mut output);
-    if let Some(socket) = socket {
-        socket.remove(host);
-    }
-    match ended {
-        Ok(()) => 0,
-        Err(fault) => {
-            if !fault.is_told() {
-                error!(rt; "{fault}");
+    match Counter::open(host, alloc, settings.control) {
+        Ok((counter, socket)) => {
+            let plan = Plan {
+                config,
+                settings,
+                counter,
+            };
+            let mut output = StreamWriter::new(output);
+            let ended = lpd_daemon::serve(rt, alloc, plan, &mut output);
+            if let Some(socket) = socket {
+                socket.remove(host);
             }
-            fault.status()
+            status_of(rt, ended)
+        }
+        Err(why) => {
+            let status = refuse_control(rt, settings.control, &why);
+            settings.let_go();
+            status
         }
     }
+}
+
+/// The spool of the configuration at this path. Why it isn't read is told in the log, where it tells more than the fault.
+fn spool_at<R: Files<File = File> + Log>(
+    rt: &R,
+    alloc: Global,
+    path: &str,
+) -> Result<ReadSpool, ActionFault> {
+    let mut file = StreamReader::open(rt, path);
+    let read = word_actions::read_spool(alloc, &mut file);
+    if let Err(fault) = &read {
+        tell_cause(rt, &path, file.cause());
+        remark_on(rt, alloc, path, Some(fault));
+    }
+    read
+}
+
+/// What each printer of a spool prints to, by its configuration and by the words of a request: the log is told of it, and of each remark.
+fn printers_at<'a, R: Files<File = File> + Log>(
+    rt: &R,
+    alloc: Global,
+    path: &str,
+    (config, told): (&Config, &'a [ToldPlace]),
+    request: &ServeRequest<'a>,
+) -> Result<Vec<PlacedPrinter<'a>>, ActionFault> {
+    let placed = printers_of(alloc, config, told, request.printers.as_slice());
+    remark_on(rt, alloc, path, placed.as_ref().err());
+    let printers = placed?;
+    tell_places(rt, alloc, config, request.settings.out, printers.as_slice())?;
+    Ok(printers)
 }
 
 /// Serves the queues of the configuration at this path, which has each printer that words say something of. Faults are told in the log.
@@ -328,31 +370,24 @@ where
     ensures { result ≤ 5 }
 {
     let alloc = host.alloc();
-    let mut file = StreamReader::open(rt, path);
-    let ServeRequest { settings, printers } = request;
-    let spool = match word_actions::read_spool(alloc, &mut file) {
+    let ReadSpool { config, told } = match spool_at(rt, alloc, path) {
         Ok(spool) => spool,
         Err(fault) => {
-            tell_cause(rt, &path, file.cause());
-            remark_on(rt, alloc, path, Some(&fault));
+            request.settings.let_go();
             return refuse(rt, &fault);
         }
     };
-    let ReadSpool { config, told } = spool;
-    let placed = printers_of(alloc, &config, told.as_slice(), printers.as_slice());
-    remark_on(rt, alloc, path, placed.as_ref().err());
-    let printers = match placed {
-        Ok(printers) => printers,
-        Err(fault) => return refuse(rt, &fault),
-    };
-    if tell_places(rt, alloc, &config, settings.out, printers.as_slice()).is_err() {
-        return refuse(rt, &ActionFault::Memory);
+    match printers_at(rt, alloc, path, (&config, told.as_slice()), &request) {
+        Ok(printers) => {
+            let mut settings = request.settings;
+            settings.printers = printers;
+            serve_plan(rt, host, config, settings, output)
+        }
+        Err(fault) => {
+            request.settings.let_go();
+            refuse(rt, &fault)
+        }
     }
-    let settings = Settings {
-        printers,
-        ..settings
-    };
-    serve_plan(rt, host, config, settings, output)
 }
 
 /// These lines of a log: for information causes, the lines of jobs and of the account's segments, and at a terminal all.
@@ -394,18 +429,18 @@ fn main(rt: HostRuntime) -> ExitCode {
         RunOutcome::Audit(request) => code(audit(&rt, &request)),
         RunOutcome::Usage(request) => code(usage(&rt, &request)),
         RunOutcome::Serve { config, request } => {
-            let settings = &request.settings;
-            let Ok(queue) = start_log(&rt, alloc, settings.log, rt.stderr()) else {
-                let mut faults = StreamWriter::new(rt.stderr());
-                return code(refuse_memory(alloc, &mut faults));
+            let Ok(queue) = start_log(&rt, alloc, request.settings.log, rt.stderr()) else {
+                request.settings.let_go();
+                return code(refuse_memory(alloc, &mut StreamWriter::new(rt.stderr())));
             };
             let lines = LineLog::new(&rt, alloc, &queue);
-            let lines = informed(lines, rt.stderr().is_terminal(), settings);
+            let lines = informed(lines, rt.stderr().is_terminal(), &request.settings);
             let logged = Logged::new(rt, Level::Info, lines);
             let status = if filled {
                 serve(&logged, &rt, config, request, rt.stdout())
             } else {
                 error!(logged; "{} /dev/null", FaultName::ReadFile);
+                request.settings.let_go();
                 4
             };
             queue.end(&rt, Duration::from_secs(PATIENCE_SECONDS));

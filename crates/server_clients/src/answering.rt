@@ -1,9 +1,10 @@
 //! Connections, each served through a session's seat.
 
 ghost use Rattle.std.specs.Int.NonZero.{non_zero_u64_get};
-ghost use Rattle.std.specs.Prelude.{◌≡◌, Some, max, option_map};
+ghost use Rattle.std.specs.Prelude.{◌≡◌, None, Some, max, option_map};
 ghost use Rattle.server_clients.specs.Ends.{failure_text, is_told};
 ghost use Rattle.connection_lobby.specs.declared.desk.Serves.TheVariants.{All, NoJobs};
+ghost use Rattle.request_session.specs.declared.ending.SessionEnd.TheVariants.{Memory};
 
 use connection_lobby::{Serves, Visit, keep_asking, send_in_pieces};
 use job_disk::DiskFolder;
@@ -145,7 +146,9 @@ impl<R: Files<File = File> + Clock + Wait + Log> Attendant<'_, '_, R> {
         sender: u32,
         reader: &mut I,
         writer: &mut W,
-    ) -> SessionEnd {
+    ) -> SessionEnd
+        ensures no_input { input.new ≡ None → result ≡ Memory }
+    {
         let (rt, alloc) = (self.hall.rt, self.hall.alloc);
         if input.is_none() {
             *input = Input::new(alloc).ok();

@@ -2,11 +2,13 @@
 #![tactic(auto)]
 
 mod ends;
+mod lines;
 pub mod rows;
 mod running;
 mod spool;
 
 pub use ends::{Reader, Writer};
+pub use lines::all_lines;
 pub use lpd_commands::{OctetFault, OctetRead, OctetWrite};
 pub use running::{Form, Group, run_groups};
 pub use spool::Spool;

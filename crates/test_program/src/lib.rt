@@ -8,14 +8,6 @@ mod kit;
 #[cfg(test)]
 mod log_queue;
 #[cfg(test)]
-mod network;
-#[cfg(test)]
-mod scene_rows;
-#[cfg(test)]
-mod scenes;
-#[cfg(test)]
-mod servers;
-#[cfg(test)]
 mod values;
 #[cfg(test)]
 mod words;

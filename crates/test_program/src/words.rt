@@ -1,7 +1,6 @@
 //! The program's words, with files and a socket on loopback.
 
 use crate::kit::{CONFIG, expect, listen, path_of, told, words_of};
-use crate::network::all_lines;
 use log::{Level, Log, Logged};
 use log_lines::{LineLog, LineQueue, LogForm};
 use lpr_client::{Control, DataFile, FileName, Octets, is_sendable, job_bytes};
@@ -16,6 +15,7 @@ use std::test::Fail;
 use std::thread::Threads;
 use std::time::{Clock, Duration, Instant};
 use std::{fs, io, thread};
+use test_kit::all_lines;
 
 /// The same and a script behind it.
 const SCRIPT: &[u8] =

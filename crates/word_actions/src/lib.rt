@@ -23,4 +23,4 @@ pub use program_words::ServeRequest;
 pub use progress::PROGRESS;
 pub use remarks::remark_on;
 pub use running::{RunOutcome, System, data_file, run, send, tell_unread};
-pub use spool_config::PlacesFault;
+pub use spool_config::{PlacesFault, ToldPlace};

@@ -1,0 +1,11 @@
+//! A server over sockets beside its clients, by rows, each a scene.
+#![tactic(auto)]
+
+#[cfg(test)]
+mod network;
+#[cfg(test)]
+mod scene_rows;
+#[cfg(test)]
+mod scenes;
+#[cfg(test)]
+mod servers;
