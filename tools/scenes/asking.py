@@ -242,9 +242,21 @@ def who_asks_at_the_end_is_answered():
         while not has_come_to_its_end():
             check(time.monotonic() < end, "it doesn't come to its end")
             time.sleep(0.05)
-        asked = [opened.enter_context(ask_at(f"{room}/socket", line)) for line in (b"status\n", b"hold lp\n", b"stop\n", b"nosuch\n", b"stat", b"")]
-        while select.select([ours], [], [], 0.5)[0] and os.read(ours, 65536):
-            pass
+        asked = [opened.enter_context(ask_at(f"{room}/socket", line)) for line in (b"status\n", b"hold lp\n", b"stop\n", b"nosuch\n", b"stat", b"", b"sta")]
+
+        def drain():
+            while select.select([ours], [], [], 0.5)[0] and os.read(ours, 65536):
+                pass
+
+        # (the last one's line is whole a moment after the end has begun, in which lines are awaited)
+        drained = threading.Thread(target=drain)
+        drained.start()
+        while has_come_to_its_end():
+            time.sleep(0.002)
+        time.sleep(0.03)
+        with contextlib.suppress(BrokenPipeError):
+            asked[-1].sendall(b"tus\n")
+        drained.join()
         told = []
         for peer in (stop, *asked):
             octets = b""
@@ -252,7 +264,7 @@ def who_asks_at_the_end_is_answered():
                 while piece := peer.recv(4096):
                     octets += piece
             told.append(octets)
-        check(told == [b"end done\n"] * 5 + [b""] * 2, f"{told}")
+        check(told == [b"end done\n"] * 5 + [b""] * 2 + [b"end done\n"], f"{told}")
         check(it.process.wait(10) == 0, "its status isn't 0")
         for end in (ours, theirs, filler):
             os.close(end)

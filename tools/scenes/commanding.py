@@ -342,6 +342,47 @@ def who_asked_and_went_gives_place():
         return f"answered after {took:.2f} s"
 
 
+def clients_that_end_no_line():
+    """Who connects to the control socket and ends no line is left after two seconds, with no word; where 64 do, the oldest gives way to the next at once, and the others have
+    their time. Who sends a line that is too long is left at once."""
+    with Room() as room, contextlib.ExitStack() as peers:
+        room.start()
+
+        def come(octets):
+            peer = peers.enter_context(socket.socket(socket.AF_UNIX))
+            peer.settimeout(10)
+            peer.connect(f"{room.folder}/control")
+            peer.sendall(octets)
+            return peer
+
+        def ends(peer):
+            """After how many seconds it is left, with no word."""
+            begun = time.monotonic()
+            with contextlib.suppress(ConnectionResetError):
+                check(peer.recv(10) == b"", "it is answered")
+            return time.monotonic() - begun
+
+        took = ends(come(b"status"))
+        check(1.7 < took < 5, f"left after {took:.1f} s")
+        check((long := ends(come(b"x" * 70_000))) < 1.5, f"a long line is left after {long:.1f} s")
+        begun = time.monotonic()
+        crowd = [come(b"x") for _ in range(64)]
+        time.sleep(0.3)
+        told, _ = talk(room, b"status\n", False)
+        answered = time.monotonic() - begun
+        check(told.endswith(b"end done\n") and answered < 1.5, f"after {answered:.1f} s: {told[-80:]}")
+        check(ends(crowd[0]) < 0.3, "the oldest stays")
+        for peer in crowd[1:]:
+            peer.setblocking(False)
+            with contextlib.suppress(BlockingIOError):
+                raise AssertionError(f"one more is left: {peer.recv(10)}")
+        for peer in crowd[1:]:
+            peer.settimeout(10)
+            ends(peer)
+        check(1.7 < time.monotonic() - begun < 6, f"all are left after {time.monotonic() - begun:.1f} s")
+        return f"after {took:.1f} s, a long line after {long:.2f} s"
+
+
 def clients_that_end_their_sending():
     """A client of the control socket that ends its sending behind its line is answered all the same, also of a stop, and so is one that sends on behind its line while its
     answer is written."""
@@ -543,7 +584,7 @@ def many_syncs_wake_each():
 
 SCENES = (signals_that_stop, the_earlier_stop_holds, stops_wait_for_what_is_printed, rotations_after_so_many_connections, a_stop_whose_last_line_is_lost, rotations_that_are_refused,
           rotations_after_connections_that_are_refused,
-          a_rotation_is_printed_at_once, segments_that_wait, room_comes_by_itself, who_asked_and_went_gives_place, clients_that_end_their_sending, commands_that_wait, descriptors_that_come_again,
+          a_rotation_is_printed_at_once, segments_that_wait, room_comes_by_itself, who_asked_and_went_gives_place, clients_that_end_no_line, clients_that_end_their_sending, commands_that_wait, descriptors_that_come_again,
           no_octet_behind_a_stop_now, pauses_begin_anew_behind_a_page, many_syncs_wake_each)
 
 if __name__ == "__main__":

@@ -20,7 +20,9 @@ import time
 import urllib.request
 
 from client import answer, ask, begin, connect, control, finish, free_port, send
+from keeping import small_disk
 from scene import PROGRAM, check, main
+from scraping import Clock
 
 TEXTS = os.path.join(os.path.dirname(os.path.abspath(__file__)), "days")
 WRITES = bool(os.environ.get("WRITE"))
@@ -48,6 +50,8 @@ class Day:
         self.known = [(str(self.port), "PORT"), (str(self.board), "BOARD"), (self.folder, "DIR")]
         self.seen, self.told, self.read, self.was = [], {}, 0, {}
         self.server = None
+        # A clock that is set by hand: then times are told as they are.
+        self.clock = None
         if not WRITES:
             with open(f"{TEXTS}/{name}.txt") as file:
                 for part in file.read().split("\n## ")[1:]:
@@ -59,7 +63,8 @@ class Day:
     def start(self, *words):
         line = [PROGRAM, "serve", f"{self.folder}/spool.toml", "--port", str(self.port), "--out", self.folder, "--control", f"{self.folder}/control",
                 "--status", str(self.board), "--log-jobs", *self.words, *words]
-        self.server = subprocess.Popen(line, stdin=subprocess.DEVNULL, stdout=open(f"{self.folder}/said", "ab"), stderr=open(f"{self.folder}/log", "ab"))
+        self.server = subprocess.Popen(line, stdin=subprocess.DEVNULL, stdout=open(f"{self.folder}/said", "ab"), stderr=open(f"{self.folder}/log", "ab"),
+                                       env=self.clock.environment if self.clock else None)
         for _ in range(600):
             with contextlib.suppress(OSError):
                 connect(self.board).close()
@@ -77,9 +82,10 @@ class Day:
             text = text.replace(word, name)
         text = re.sub(r"(127\.0\.\d+\.\d+):\d{4,5}\b", r"\1:N", text)
         text = re.sub(r"\b[0-9a-f]{64}\b", "DIGEST", text)
-        text = re.sub(r"(?m)^(uptime|session \S+ silent|printer \d+ \S+ (?:stopped|unreached|putoff)) \d+", r"\1 S", text)
+        if not self.clock:
+            text = re.sub(r"(?m)^(uptime|session \S+ silent|printer \d+ \S+ (?:stopped|unreached|putoff)) \d+", r"\1 S", text)
         # (a job that ended before its session went on has no file in the line that tells that it came)
-        text = re.sub(r"\bin [\d.]+ s\b( file \d+$)?", "in S s", text, flags=re.M)
+        text = re.sub(r"\b(in [\d.]+ s)\b( file \d+$)?", r"\1" if self.clock else "in S s", text, flags=re.M)
         return text.strip("\n")
 
     def tell(self, title, text):
@@ -122,11 +128,11 @@ class Day:
 
     def page(self, title):
         """The page, and its tags, each on a line: what is other than when it was looked at last."""
-        self.await_changes("page", title, lambda: words_of(self.fetched("/")))
+        self.await_changes("page", title, lambda: words_of(self.fetched("/"), self.clock))
 
     def metrics(self, title):
         """What is other at /metrics than when it was looked at last."""
-        self.await_changes("metrics", title, lambda: measured(self.fetched("/metrics")))
+        self.await_changes("metrics", title, lambda: self.fetched("/metrics") if self.clock else measured(self.fetched("/metrics")))
 
     def await_changes(self, what, title, read):
         """What this reads comes to be as it was when it was read last but for this step's text."""
@@ -150,6 +156,13 @@ class Day:
         end = time.monotonic() + PATIENCE
         while words not in self.ran("control", f"{self.folder}/control", "status"):
             check(time.monotonic() < end, f"{title}: the status hasn't {words!r}")
+            time.sleep(0.05)
+
+    def await_log(self, words, seconds=40):
+        """The log has these words."""
+        end = time.monotonic() + seconds
+        while words not in self.text_of("log")[self.read:]:
+            check(time.monotonic() < end, f"the log hasn't {words!r}: {self.text_of('log')[self.read:][-600:]}")
             time.sleep(0.05)
 
     def said_all(self, title):
@@ -221,15 +234,16 @@ class Day:
                 file.writelines(f"\n## {title}\n{text}\n" for title, text in self.seen)
 
 
-def words_of(page):
-    """A page as lines: its tags with what stands in them, and each text, without times."""
+def words_of(page, has_times):
+    """A page as lines: its tags with what stands in them, and each text, without times where it isn't to have them."""
     page = re.sub(r"<style>.*?</style>", "", page, flags=re.S)
-    # (curves of the last hour are there once a minute has passed)
+    # (curves of the last hour are there once a minute has passed, and what they were drawn of is looked at beside all else)
     page = re.sub(r"<section[^>]*>(?:(?!</section>).)*Jobs printed a minute.*?</section>", "", page, flags=re.S)
     page = re.sub(r"<h3>Pages in use, the last hour</h3>(?:(?!</section>).)*", "", page, flags=re.S)
     page = re.sub(r"</[^>]*>", "\n", page)
     page = re.sub(r"<([^>]*)>", r"\n<\1>\n", page)
-    page = re.sub(r"\b\d+ (s|min|h)\b( \d+ min\b)?", "T", page)
+    if not has_times:
+        page = re.sub(r"\b\d+ (s|min|h)\b( \d+ min\b)?", "T", page)
     lines = [line.strip() for line in html.unescape(page).split("\n")]
     return "\n".join(line for line in lines if line)
 
@@ -405,6 +419,7 @@ def in_memory():
         for title, octets in PEERS:
             it.said(title, octets)
         it.log("what peers got wrong")
+        it.seen_all("what peers got wrong")
         check(job(it.port, 20, "jo", [b"h" * 4000], "two") == 0, "job 20")
         it.await_text("the last page goes", lambda: it.ran("state", str(it.port), "two"))
 
@@ -501,7 +516,8 @@ def kept():
         # what is wrong in the folder between two days
         octets = open(f"{spool}/4.job", "rb").read()
         for name, text in (("4.job", octets.replace(b"w", b"W", 1)), ("20.job", octets[:-9]), ("21.tmp", octets), ("22.job", b""), ("held", b"lp\nnowhere\n"), ("notes", b"x"),
-                           ("99999999999999999999.job", b"x"), ("18446744073709551615.job", b"x"), ("23.failed", octets.replace(b"lp", b"xx"))):
+                           ("99999999999999999999.job", b"x"), ("18446744073709551615.job", b"x"), ("23.failed", octets.replace(b"lp", b"xx")),
+                           ("24.job", octets.replace(b"hurgwaye 1", b"hurgwaye 2", 1)), ("25.failed", octets.replace(b"hurgwaye 1", b"hurgwaye 2", 1))):
             with open(f"{spool}/{name}", "wb") as file:
                 file.write(text)
         it.runs("check of a folder that is broken", *checks)
@@ -531,6 +547,226 @@ def kept():
     return "as they have to be"
 
 
+def by_the_clock():
+    """A day of which the clock is set by hand, so that each time is told as it is: of jobs that wait, of printers that fail and are started again, aren't reached or take nothing,
+    of peers that are silent or slow, of the last hour, and of a stop that waits for a while."""
+    net = free_port()
+    config = CONFIG + queue("lp", 8) + queue("plotter", 16) + queue("net", 8) + queue("bad", 4)
+    words = ("--printer", f"3=socket://127.0.0.1:{net}", "--restart", "20", "--patience", "30", "--slowest", "100", "--sessions", "4")
+    with Clock() as clock, Day("clock", config, *words) as it:
+        it.clock = clock
+        it.known.append((str(net), "NET"))
+        os.symlink("/dev/full", f"{it.folder}/printer-4")
+        pipe = Pipe(f"{it.folder}/printer-2")
+
+        def at(seconds, title):
+            """The clock is set, and all that looks at it has looked."""
+            clock.set(seconds)
+            time.sleep(0.8)
+            it.seen_all(f"{title}, at {seconds} s")
+
+        it.start()
+        it.log("the start")
+        at(0, "the start")
+        at(3, "a moment later")
+        check(job(it.port, 1, "ann", [b"first\n" * 100], host="127.0.0.2") == 0, "job 1")
+        it.log("a job is printed")
+        it.control("hold", "lp")
+        clock.set(10)
+        check(job(it.port, 2, "ann", [b"x" * 3000], host="127.0.0.2") == 0, "job 2")
+        at(69, "a job waits")
+        at(70, "a job waits for a minute")
+        it.lpq("a job waits", b"\x04lp\n")
+        it.log("a job waits")
+
+        # a queue that is started again, each time later
+        clock.set(100)
+        check(job(it.port, 3, "bob", [b"y" * 2000], "bad", host="127.0.0.3") == 0, "job 3")
+        it.log("a printer fails")
+        check(job(it.port, 4, "bob", [b"y" * 1000], "bad", host="127.0.0.3") == 0, "job 4")
+        at(119, "before it is started again")
+        it.log("before it is started again")
+        at(120, "it is started again")
+        it.log("it is started again")
+        check(job(it.port, 5, "bob", [b"y" * 10], "bad", host="127.0.0.3") == 0, "job 5")
+        at(159, "before the second time")
+        it.log("before the second time")
+        at(160, "the second time")
+        it.log("the second time")
+        at(161, "behind the second time")
+
+        # a printer that isn't reached
+        clock.set(200)
+        check(job(it.port, 6, "cy", [b"z" * 1500], "net", host="127.0.0.4") == 0, "job 6")
+        it.log("a printer isn't reached")
+        at(221, "another has stood still for a minute")
+        it.log("another has stood still for a minute")
+        at(240, "that one's queue is started again")
+        it.log("that one's queue is started again")
+        clock.set(290)
+        # (the pauses between two tries pass by another clock)
+        it.await_log("hasn't been reached for 90 s")
+        it.log("it isn't reached for more than a minute")
+        at(291, "it isn't reached")
+        it.lpq("it isn't reached", b"\x04net\n")
+        clock.set(320)
+        printer = Collector(net)
+        it.await_log(" done in 120.00 s")
+        it.log("it is reached")
+        check([len(octets) for octets in printer.jobs] == [1500], f"{len(printer.jobs)} jobs came")
+        at(325, "it is reached")
+
+        # a pipe that nobody reads
+        clock.set(500)
+        check(job(it.port, 7, "dan", [b"p" * 8192], "plotter", host="127.0.0.5") == 0, "job 7")
+        it.await_status("the pipe is full", " prints ")
+        check(job(it.port, 8, "dan", [b"q" * 1024], "plotter", host="127.0.0.5") == 0, "job 8")
+        at(559, "a pipe is full")
+        it.log("a pipe is full, for less than a minute")
+        at(560, "a pipe is full")
+        it.log("a pipe is full, for a minute")
+        at(1_099, "a pipe is full")
+        it.log("a pipe is full, for less than ten minutes")
+        at(1_100, "a pipe is full")
+        it.log("a pipe is full, for ten minutes")
+        pipe.read()
+        it.log("the pipe is read")
+        at(1_110, "the pipe is read")
+
+        # peers that are silent, and slow
+        with contextlib.closing(begin(it.port, 9, 9000, b"r" * 4000, "plotter", "127.0.0.6")) as slow, contextlib.closing(connect(it.port, "127.0.0.7")) as silent:
+            it.await_status("one has come", "session 127.0.0.6:")
+            clock.set(1_112)
+            silent.sendall(b"\x02lp\n")
+            check(answer(silent) == 0, "a queue isn't taken")
+            at(1_149, "two peers are silent")
+            clock.set(1_150)
+            slow.sendall(b"r" * 10)
+            time.sleep(0.5)
+            at(1_150, "one says something")
+            it.log("peers, before a minute")
+            clock.set(1_171)
+            slow.sendall(b"r" * 3_000)
+            time.sleep(0.5)
+            at(1_172, "one has sent enough")
+            it.log("one has sent enough")
+            clock.set(1_232)
+            slow.sendall(b"r" * 10)
+            time.sleep(0.5)
+            at(1_233, "one was too slow")
+            it.log("one was too slow")
+        at(1_240, "both have gone")
+        it.log("both have gone")
+        at(4_000, "an hour later")
+        it.control("rotate")
+        it.control("release", "lp")
+        it.log("the queue is released")
+        it.control("rotate")
+        at(90_100, "a day later")
+        it.log("a day later")
+
+        # a stop that waits for a while
+        check(job(it.port, 10, "dan", [b"p" * 8192], "plotter", host="127.0.0.5") == 0, "job 10")
+        it.await_status("the pipe is full", " prints ")
+        it.log("a last job")
+        with contextlib.closing(connect(it.port, "127.0.0.7")) as peer:
+            peer.sendall(b"\x02lp\n")
+            check(answer(peer) == 0, "a queue isn't taken")
+            asked = subprocess.Popen([PROGRAM, "control", f"{it.folder}/control", "stop", "40"], stdout=subprocess.PIPE, text=True)
+            it.await_status("a stop is asked for", "spool stops")
+            at(90_139, "a stop waits")
+            check(asked.poll() is None and it.server.poll() is None, "it doesn't wait")
+            it.log("a stop waits")
+            # (its end has times of its own)
+            for second in range(90_140, 90_159):
+                clock.set(second)
+                with contextlib.suppress(subprocess.TimeoutExpired):
+                    it.server.wait(0.3)
+                    break
+            check(it.server.poll() == 0, f"it doesn't end: {it.server.poll()}")
+            told = asked.communicate(timeout=30)[0]
+        it.tell("the stop", told)
+        it.said_all("all day")
+        it.log("the end")
+    return "as it has to be"
+
+
+def on_a_disk_that_is_read_only():
+    """A day of a server whose folders lie on a disk that becomes read-only for a while: jobs that wait are removed, cancelled, sent again, printed, and come, queues are held and
+    released, the account is rotated; and then all that once more, when the disk takes what is written."""
+    config = CONFIG + queue("lp", 8) + queue("plotter", 16) + queue("bad", 4) + queue("box", 4)
+    with Day("read_only", config) as it, small_disk(f"{it.folder}/disk", 4):
+        spool, account = f"{it.folder}/disk/spool", f"{it.folder}/disk/account"
+        it.words = ("--spool", spool, "--account", account, "--keep-room", "--sessions", "4", "--printer", f"1=file:{it.folder}/one", "--printer", f"2=file:{it.folder}/two",
+                    "--printer", f"3=file:{it.folder}/full", "--printer", f"4=folder:{it.folder}/disk/box")
+        os.makedirs(f"{it.folder}/disk/box")
+        os.symlink("/dev/full", f"{it.folder}/full")
+
+        def mounted(how):
+            """The disk takes what is written, or nothing more: then the same lies over it, which is read-only, since files of it are open."""
+            disk = f"{it.folder}/disk"
+            for line in ((["mount", "--bind", disk, disk], ["mount", "-o", "remount,ro,bind", disk]) if how == "ro" else (["umount", disk],)):
+                subprocess.run(line, check=True)
+
+        def commands(label):
+            """What is asked for whether the disk takes it or not."""
+            for words in (("remove", "lp", "ann"), ("remove", "lp", "2"), ("cancel", "file", "3"), ("cancel", "file", "99"), ("cancel", "job", "99"), ("hold", "plotter"),
+                          ("release", "plotter"), ("release", "box"), ("resend", "7")):
+                it.control(*words)
+            it.said(f"lprm, {label}", b"\x05lp bob 4\n")
+            it.log(f"commands, {label}")
+            for words in (("start", "bad"), ("resend", "all"), ("rotate",)):
+                it.control(*words)
+            it.log(f"more commands, {label}")
+            it.files(f"commands, {label}", "disk/spool")
+
+        it.start()
+        it.log("the start")
+        it.control("hold", "lp")
+        for number, user in ((1, "ann"), (2, "bob"), (3, "cy"), (4, "bob"), (5, "dan"), (6, "eve")):
+            check(job(it.port, number, user, [b"%d" % number * 1000], host=f"127.0.0.{number + 1}") == 0, f"job {number}")
+        check(job(it.port, 7, "fay", [b"7" * 1000], "bad", host="127.0.0.8") == 0, "job 7")
+        it.log("six wait, and one fails")
+        it.files("six wait, and one has failed", "disk/spool")
+        mounted("ro")
+        commands("read-only")
+        it.seen_all("read-only")
+        check((due := job(it.port, 8, "gus", [b"8" * 1000], "plotter", host="127.0.0.9")) == 2, f"job 8 is answered by {due}")
+        it.log("one comes, read-only")
+        it.control("release", "lp")
+        it.log("the queue is released, read-only")
+        it.files("the queue is released, read-only", "disk/spool")
+        it.printed("read-only", "one")
+        it.seen_all("the queue is released, read-only")
+        mounted("rw")
+        it.await_log("segment-0000000001 run 1 segment 1 ")
+        check(job(it.port, 9, "hal", [b"9" * 1000], "box", host="127.0.0.10") == 0, "job 9")
+        it.log("the disk takes it")
+        it.files("the disk takes it", "disk/spool")
+        it.control("hold", "lp")
+        for number, user in ((10, "ann"), (11, "bob"), (12, "cy")):
+            check(job(it.port, number, user, [b"x" * 1000], host=f"127.0.0.{number + 1}") == 0, f"job {number}")
+        commands("once it takes it")
+        it.seen_all("once it takes it")
+        mounted("ro")
+        check((due := job(it.port, 13, "ida", [b"y" * 1000], "box", host="127.0.0.14")) == 2, f"job 13 is answered by {due}")
+        it.log("one comes to a folder, read-only")
+        it.ends("read-only", "stop")
+        it.log("the end, read-only")
+        mounted("rw")
+        it.start()
+        it.log("the next start")
+        it.files("the next start", "disk/spool")
+        it.seen_all("the next start")
+        it.control("release", "lp")
+        it.log("the queue is released")
+        it.ends("the next day", "stop")
+        it.log("the next day's end")
+        it.files("the next day's end", "disk/spool")
+        it.files("segments", "disk/account")
+    return "as it has to be"
+
+
 # What peers send that is refused, or asks for little.
 PEERS = (
     ("an unknown queue", b"\x02nowhere\n"),
@@ -541,6 +777,16 @@ PEERS = (
     ("a queue alone", b"\x02lp\n"),
     ("a bad length", b"\x02lp\n\x03x dfA001h\n"),
     ("a file that is too large", b"\x02lp\n\x03999999 dfA001h\n"),
+    ("a file of nothing", b"\x02lp\n\x030 dfA001h\n"),
+    ("a bad length of a control file", b"\x02lp\n\x02x cfA001h\n"),
+    ("a control file that is too large", b"\x02lp\n\x02999999 cfA001h\n"),
+    ("a control file of nothing", b"\x02lp\n\x020 cfA001h\n"),
+    ("a name of no control file", b"\x02lp\n\x0210 dfA001h\n"),
+    ("a long line", b"\x02" + b"l" * 3_000 + b"\n"),
+    ("many words", b"\x03lp" + b" 1" * 300 + b"\n"),
+    ("no octets behind a command", b"\x05\n"),
+    ("a second queue", b"\x02lp\n\x02lp\n"),
+    ("an unknown command of a job", b"\x02lp\n\x07x\n"),
     ("a name that is none", b"\x02lp\n\x0310 xyz\n"),
     ("an abort", b"\x02lp\n\x01\n"),
     ("a file twice", b"\x02lp\n\x031 dfA001h\na\0\x031 dfA001h\na\0"),
@@ -554,4 +800,4 @@ PEERS = (
 
 
 if __name__ == "__main__":
-    sys.exit(main([in_memory, kept], __doc__))
+    sys.exit(main([in_memory, kept, by_the_clock, on_a_disk_that_is_read_only], __doc__))

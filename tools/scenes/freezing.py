@@ -8,6 +8,7 @@ import os
 import signal
 import socket
 import struct
+import subprocess
 import sys
 import tempfile
 import threading
@@ -450,6 +451,35 @@ def few_pages_and_a_printer_that_fails():
         held = together(4, lambda number: send(server.port, number, b"f" * (64 * 4096), host=f"127.0.7.{number + 1}"))
         check(held == [0, 0, 0, 0], held)
         return f"{ended[0]} jobs, at most {longest[0]:.1f} s between two, and all pages free at the end"
+
+
+def sessions_that_wait_where_nothing_happens():
+    """Where nothing at all happens for as long as a peer may be silent, each job that waits for a page is ended, and told; before that none is, and none where anything goes on."""
+    with tempfile.TemporaryDirectory() as room:
+        words = ("--silence", "3", "--sessions", "8", "--control", f"{room}/control")
+        with Server(PROGRAM, spool(pages=8, limit=8, size=512), *words) as server, contextlib.ExitStack() as peers:
+            def tell(*told):
+                return subprocess.run([PROGRAM, "control", f"{room}/control", *told], capture_output=True, text=True, timeout=20).stdout
+
+            tell("hold", "lp")
+            check(send(server.port, 1, b"x" * 4_000) == 0, "a job isn't taken")
+            waiting = [peers.enter_context(begin(server.port, 2 + at, 1_000, b"y" * 1_000, host=f"127.0.0.{2 + at}")) for at in range(2)]
+            begun = time.monotonic()
+            why = "nothing has happened for as long as a peer may be silent"
+            # (something goes on meanwhile)
+            time.sleep(2)
+            check(tell("status").count(" waits for a page") == 2, tell("status"))
+            third = peers.enter_context(begin(server.port, 4, 1_000, b"y" * 1_000, host="127.0.0.4"))
+            for peer in (*waiting, third):
+                peer.settimeout(20)
+                peer.sendall(b"\0")
+                check(answer(peer) in (1, 2, None), "it is answered by 00")
+            took = time.monotonic() - begun
+            lines = [line for line in server.log().splitlines() if line.endswith(why)]
+            check(len(lines) == 3, f"{lines}: {server.log()[-400:]}")
+            check(4.5 < took < 12, f"after {took:.1f} s")
+            check(" receiving " not in tell("status"), tell("status"))
+        return f"three, after {took:.1f} s"
 
 
 def room_under_load():

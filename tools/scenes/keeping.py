@@ -4,6 +4,7 @@
 Servers are killed, their disks are full, read-only or gone. Each scene is bounded in time and runs on loopback alone. The scenes of disks mount
 small file systems, and so are left out where that isn't allowed. A line says what was seen; the last line is 'N passed, M failed'."""
 import contextlib
+import fcntl
 import glob
 import os
 import random
@@ -264,6 +265,126 @@ def a_second_server():
         told = subprocess.run(line, capture_output=True, text=True, timeout=10)
         check(told.returncode == 4 and told.stderr.splitlines()[-1] == f"fault 73 WriteFile {room.kept}", told)
         return told.stderr.splitlines()[-1]
+
+
+def a_second_server_at_an_account():
+    """A second server whose account would be another one's folder is refused, and says whose it is; a folder of kept jobs is told otherwise."""
+    with Room() as room:
+        plain = room.line()
+        room.line = lambda: [*plain, "--account", f"{room.folder}/account"]
+        room.start()
+        seen = []
+        for words, told in ((("--account", f"{room.folder}/account"), "another server writes its account there"), (("--spool", room.kept), "another server keeps its jobs there")):
+            line = [PROGRAM, "serve", f"{room.folder}/spool.toml", "--port", str(free_port()), "--out", f"{room.folder}/elsewhere", *words]
+            os.makedirs(f"{room.folder}/elsewhere", exist_ok=True)
+            ran = subprocess.run(line, capture_output=True, text=True, timeout=10)
+            lines = ran.stderr.splitlines()
+            check(ran.returncode == 4 and lines[-1] == f"fault 73 WriteFile {words[1]}" and any(told in line for line in lines), f"{ran}")
+            seen.append(lines[-2])
+        return "; ".join(line[-60:] for line in seen)
+
+
+# A spool that has room for one job at a time.
+NARROW = """pages = 64
+page_size = 512
+max_jobs = 1
+account = 400000
+""" + "".join(f"""
+[[queue]]
+name = "{name}"
+limit = 32
+printers = 1
+""" for name in ("lp", "plotter"))
+
+
+def taken_at(pipe, count, seconds=20):
+    """The octets that come through a pipe, until they are so many or none comes any more."""
+    octets, end = b"", time.monotonic() + seconds
+    while len(octets) < count and time.monotonic() < end:
+        with contextlib.suppress(BlockingIOError):
+            octets += os.read(pipe, 65536)
+        time.sleep(0.01)
+    return octets
+
+
+def a_stop_has_nothing_more_printed():
+    """A server that is asked to stop prints what the spool has, and ends then: the jobs that wait in the folder for room wait for the next start."""
+    with Room(config=NARROW) as room:
+        os.mkfifo(f"{room.folder}/printer-1")
+        pipe = os.open(f"{room.folder}/printer-1", os.O_RDWR | os.O_NONBLOCK)
+        fcntl.fcntl(pipe, 1031, 4096)
+        room.start()
+        for number in range(1, 5):
+            check(send(room.port, number, b"%d" % number * 8_000) == 0, f"job {number} isn't taken")
+        check("kept waiting 3 " in (told := room.tell("status")), told)
+        stop = subprocess.Popen([PROGRAM, "control", f"{room.folder}/control", "stop", "30"], stdout=subprocess.PIPE, text=True)
+        while "spool stops" not in room.tell("status"):
+            time.sleep(0.05)
+        octets = taken_at(pipe, 8_000)
+        begun = time.monotonic()
+        check(room.server.wait(20) == 0, "it ends otherwise")
+        took = time.monotonic() - begun
+        octets += taken_at(pipe, 1, 0.5)
+        check(octets == b"1" * 8_000, f"{len(octets)} octets, {octets[-3:]}")
+        check(took < 3, f"it ended {took:.1f} s later")
+        check(len(room.files("job")) == 3 and not room.files("failed"), room.files("*"))
+        told = stop.communicate(timeout=10)[0]
+        check("3 jobs wait in the folder for the next start" in told, told)
+        room.start()
+        octets = taken_at(pipe, 24_000)
+        check(octets == b"2" * 8_000 + b"3" * 8_000 + b"4" * 8_000, len(octets))
+        room.await_files(0)
+        os.close(pipe)
+        return f"one, {took:.1f} s before the end"
+
+
+def a_server_of_so_many_connections_prints_what_waits():
+    """A server that ends after so many connections ends once all that waits in its folder is printed, but for the jobs of a queue that is held."""
+    with Room(config=NARROW) as room:
+        os.mkfifo(f"{room.folder}/printer-1")
+        pipe = os.open(f"{room.folder}/printer-1", os.O_RDWR | os.O_NONBLOCK)
+        fcntl.fcntl(pipe, 1031, 4096)
+        plain = room.line()
+        # (the first connection looks whether it listens)
+        room.line = lambda: [*plain, "--connections", "6"]
+        room.start()
+        room.tell("hold", "plotter")
+        check(send(room.port, 1, b"p" * 700, "plotter") == 0, "a job isn't taken")
+        for number in range(2, 6):
+            check(send(room.port, number, b"%d" % number * 8_000) == 0, f"job {number} isn't taken")
+        time.sleep(1)
+        check(room.server.poll() is None, f"it ended before: {room.log()[-300:]}")
+        octets = taken_at(pipe, 32_000)
+        begun = time.monotonic()
+        check(room.server.wait(20) == 0, "it ends otherwise")
+        took = time.monotonic() - begun
+        check(octets == b"".join(b"%d" % number * 8_000 for number in range(2, 6)), f"{len(octets)} octets")
+        check(room.files("job") == ["1.job"] and not room.files("failed") and took < 3, f"{room.files('*')}, {took:.1f} s")
+        os.close(pipe)
+        return f"four, {took:.1f} s before the end"
+
+
+def a_file_of_no_queue_is_not_cancelled():
+    """A kept job of a queue that isn't configured any more is in no line: that it is to be cancelled is refused, and its file stays."""
+    with Room() as room:
+        room.start()
+        for queue in ("plotter", "lp"):
+            room.tell("hold", queue)
+            check(send(room.port, 1, b"of a queue", queue) == 0, "a job isn't taken")
+        room.tell("stop")
+        check(room.server.wait(20) == 0, room.log()[-300:])
+        with open(f"{room.folder}/spool.toml", "w") as file:
+            file.write(CONFIG.replace('"plotter"', '"other"'))
+        room.start()
+        room.await_log("1.job")
+        told = room.tell("cancel", "file", "1")
+        check(told.startswith("fault 60 Refused file 1 (001) ann@h1 of plotter neither waits nor has failed"), told)
+        check(room.files("job") == ["1.job", "2.job"] and not room.files("failed"), room.files("*"))
+        told = room.tell("cancel", "file", "2")
+        check(told.startswith("removed file 2 (001) ann@h1 of lp"), told)
+        room.await_files(1)
+        check(room.files("job") == ["1.job"], room.files("*"))
+        return told.strip()
 
 
 def a_failed_job_is_sent_again():
@@ -647,7 +768,8 @@ def stopped_now_amid_a_pipe():
         return "it was printed after the next start"
 
 
-SCENES = [killed_once, a_second_server, a_failed_job_is_sent_again, a_job_is_removed, files_that_are_no_jobs, changed_files_are_not_printed,
+SCENES = [killed_once, a_second_server, a_second_server_at_an_account, a_stop_has_nothing_more_printed, a_server_of_so_many_connections_prints_what_waits,
+          a_file_of_no_queue_is_not_cancelled, a_failed_job_is_sent_again, a_job_is_removed, files_that_are_no_jobs, changed_files_are_not_printed,
           whole_files_of_any_length, a_stopped_queue_has_none_in_the_spool, files_that_change_while_they_wait, a_hold_s_file_is_made_anew, a_full_disk,
           a_read_only_disk, a_folder_that_goes_away, stopped_now_amid_a_job, stopped_now_amid_a_pipe, many_kept_jobs, killed_at_random]
 

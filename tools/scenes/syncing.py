@@ -259,9 +259,54 @@ def a_segment_s_sync_fails():
         return room.log().strip().splitlines()[0][-110:]
 
 
+def a_kept_file_that_cannot_be_read():
+    """A kept job whose file can't be read by the disk when its turn comes, at whichever of its reads, isn't printed and stays, with why; the others are printed."""
+    told = [read_fails_at(number) for number in (1, 2, 5, 20, 40, 50, 55, 60, 65, 70, 80, 100, 150, 1_000)]
+    # (it is read twice: whether it is as it was kept, and to be printed)
+    check(set(told) == {"Input/output error (os error 5)", "its file can't be read", None} and told[-1] is None, f"{told}")
+    return f"{sum(it is not None for it in told)} reads of {len(told)}"
+
+
+def read_fails_at(number_of_read):
+    """Why a job isn't printed where the read of this number, and those behind it, fail; None where there is none."""
+    with Watched() as room:
+        room.start()
+        room.tell("hold", "lp")
+        for number in (1, 2, 3):
+            check(send(room.port, number, b"%d" % number * 9_000, host=f"127.0.0.{number + 1}") == 0, f"job {number} isn't taken")
+        line = ["strace", "-ff", "-qq", "-o", "/dev/null", "-P", f"{room.kept}/2.job", "-e", "trace=read,pread64,readv,preadv", "-e", "inject=read,pread64,readv,preadv:error=EIO:when=%d+" % number_of_read,
+                "-p", str(room.server.pid)]
+        watcher = subprocess.Popen(line, stdin=subprocess.DEVNULL, stderr=subprocess.DEVNULL)
+        for _ in range(200):
+            if all(room.is_watched(task) for task in os.listdir(f"/proc/{room.server.pid}/task")):
+                break
+            check(watcher.poll() is None, "strace isn't allowed")
+            time.sleep(0.02)
+        room.tell("release", "lp")
+        for _ in range(200):
+            if len(room.printed()) >= 18_000 and (room.files("job") == [] or "2.job" in room.log()):
+                break
+            time.sleep(0.05)
+        watcher.terminate()
+        watcher.wait(10)
+        if len(room.printed()) == 27_000:
+            room.await_files(0)
+            return None
+        told = [it for it in room.log().splitlines() if "2.job" in it]
+        check(len(told) == 1 and " the job in file 2.job isn't printed, and stays where it is: " in told[0], told)
+        check(room.files("job") == ["2.job"] and not room.files("failed"), room.files("*"))
+        check(room.printed() == b"1" * 9_000 + b"3" * 9_000, len(room.printed()))
+        room.kill()
+        room.start()
+        room.await_files(0)
+        check(room.printed().endswith(b"2" * 9_000), "it isn't printed by the next start")
+        return told[0].rpartition(" where it is: ")[2]
+
+
 if __name__ == "__main__":
     if not shutil.which("strace"):
         raise SystemExit("strace isn't there")
     sys.exit(main([a_job_is_synced_before_it_is_acknowledged, a_start_syncs_the_folder, a_new_folder_s_own_name_is_synced,
                    what_is_printed_is_synced_before_the_job_goes, a_printer_waits_for_no_removal, a_job_that_is_sent_again_is_synced, a_file_s_sync_fails,
-                   a_file_s_new_name_fails, a_file_that_is_not_synced_stays, the_folder_s_sync_fails, a_segment_is_synced, a_segment_s_sync_fails], __doc__))
+                   a_file_s_new_name_fails, a_file_that_is_not_synced_stays, the_folder_s_sync_fails, a_segment_is_synced, a_segment_s_sync_fails,
+                   a_kept_file_that_cannot_be_read], __doc__))

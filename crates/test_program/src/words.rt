@@ -677,7 +677,7 @@ fn logged_of_row<
     let logged = Logged::new(rt, level, LineLog::new(rt, alloc, &queue));
     let told = told_of_row(&logged, line, octets);
     assert!(rt; told.as_slice().ends_with(b"status 4\n"), "{line}");
-    all_lines(rt, alloc, &queue)
+    all_lines(rt, alloc, &queue).expect(rt, "memory")
 }
 
 /// Before the fault of a file or an address the log is told at INFO which it is, and why. At WARN, as where standard error isn't a terminal,
