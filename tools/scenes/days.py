@@ -695,7 +695,7 @@ def on_a_disk_that_is_read_only():
     """A day of a server whose folders lie on a disk that becomes read-only for a while: jobs that wait are removed, cancelled, sent again, printed, and come, queues are held and
     released, the account is rotated; and then all that once more, when the disk takes what is written."""
     config = CONFIG + queue("lp", 8) + queue("plotter", 16) + queue("bad", 4) + queue("box", 4)
-    with Day("read_only", config) as it, small_disk(f"{it.folder}/disk", 4):
+    with Day("read_only", config) as it, small_disk(f"{it.folder}/disk", 4), contextlib.ExitStack() as over:
         spool, account = f"{it.folder}/disk/spool", f"{it.folder}/disk/account"
         it.words = ("--spool", spool, "--account", account, "--keep-room", "--sessions", "4", "--printer", f"1=file:{it.folder}/one", "--printer", f"2=file:{it.folder}/two",
                     "--printer", f"3=file:{it.folder}/full", "--printer", f"4=folder:{it.folder}/disk/box")
@@ -705,8 +705,11 @@ def on_a_disk_that_is_read_only():
         def mounted(how):
             """The disk takes what is written, or nothing more: then the same lies over it, which is read-only, since files of it are open."""
             disk = f"{it.folder}/disk"
-            for line in ((["mount", "--bind", disk, disk], ["mount", "-o", "remount,ro,bind", disk]) if how == "ro" else (["umount", disk],)):
-                subprocess.run(line, check=True)
+            if how == "rw":
+                return over.close()
+            subprocess.run(["mount", "--bind", disk, disk], check=True)
+            over.callback(lambda: subprocess.run(["umount", "-l", disk], check=True))
+            subprocess.run(["mount", "-o", "remount,ro,bind", disk], check=True)
 
         def commands(label):
             """What is asked for whether the disk takes it or not."""
