@@ -618,6 +618,27 @@ def octets_of_no_page():
         return f"told, and {length} octets beside a failed page"
 
 
+def the_last_segment_is_tried_thrice():
+    """At a stop the last segment is tried three times, a second and two apart: one that finds its place at the third is written, and the server ends well."""
+    with Books() as room:
+        room.start()
+        check(send(room.port, 1, b"a page") == 0, "a job isn't taken")
+        place = f"{room.account}/segment-0000000001"
+        with open(place, "w") as file:
+            file.write("somebody's")
+        stop = subprocess.Popen([PROGRAM, "control", f"{room.folder}/control", "stop"], stdout=subprocess.DEVNULL, stderr=subprocess.DEVNULL)
+        begun = time.monotonic()
+        time.sleep(2)
+        check(room.server.poll() is None, f"it ended before the third try: {room.log()[-300:]}")
+        os.remove(place)
+        check(room.server.wait(20) == 0, room.log()[-300:])
+        took = time.monotonic() - begun
+        stop.wait(10)
+        status, told, why = room.audit()
+        check(status == 0 and "legal segments 1 " in told and 2.5 < took < 8, f"{took:.1f} s: {status} {told}{why}")
+        return f"after {took:.1f} s"
+
+
 def a_file_in_a_segment_s_place():
     """A file that somebody has put where the next segment is to come is told and isn't written over: the segment is kept, and comes there once the file is gone."""
     with Books() as room:
@@ -791,7 +812,7 @@ def write_segment(path, run, previous, entries):
 
 SCENES = [written_and_audited, changed_files_are_told, folders, folders_of_version_1, what_was_used, an_aborted_job_is_over, an_empty_file_is_no_segment,
           names_are_no_formulas, a_printer_that_moves,
-          octets_of_no_page, a_file_in_a_segment_s_place, pipes_in_the_place_of_files, a_last_segment_that_goes_on, a_start_goes_on_behind_the_last, a_full_disk, hostile_files, a_long_account]
+          octets_of_no_page, the_last_segment_is_tried_thrice, a_file_in_a_segment_s_place, pipes_in_the_place_of_files, a_last_segment_that_goes_on, a_start_goes_on_behind_the_last, a_full_disk, hostile_files, a_long_account]
 
 if __name__ == "__main__":
     sys.exit(main(SCENES, __doc__))

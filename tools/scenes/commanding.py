@@ -387,15 +387,34 @@ def clients_that_end_their_sending():
     """A client of the control socket that ends its sending behind its line is answered all the same, also of a stop, and so is one that sends on behind its line while its
     answer is written."""
     with Room() as room:
+        os.mkfifo(f"{room.folder}/printer-1")
         room.start()
         told, _ = talk(room, b"status\n", True)
         check(told.endswith(b"end done\n"), told[-80:])
         # (what stands behind a line is passed over while the answer is written: else the end is a reset, and the answer may be lost)
         told, _ = talk(room, b"status\n" + b"x" * 3_000, False)
         check(told.endswith(b"end done\n"), told[-80:])
-        told, took = talk(room, b"stop\n", True)
+        # (whoever ends it while a command waits for a job is answered too)
+        check(send(room.port, 1, b"x" * 300_000) == 0, "a job isn't taken")
+        while " prints " not in room.tell("status"):
+            time.sleep(0.05)
+        with socket.socket(socket.AF_UNIX) as peer:
+            peer.settimeout(15)
+            peer.connect(f"{room.folder}/control")
+            peer.sendall(b"stop 30\n")
+            while "spool stops" not in room.tell("status"):
+                time.sleep(0.05)
+            peer.shutdown(socket.SHUT_WR)
+            time.sleep(0.3)
+            begun = time.monotonic()
+            with open(f"{room.folder}/printer-1", "rb") as pipe:
+                check(len(pipe.read(300_000)) == 300_000, "the job isn't printed")
+            told = b""
+            while piece := peer.recv(4_096):
+                told += piece
         check(told.endswith(b"end done\n"), told)
         check(room.server.wait(10) == 0, room.server.returncode)
+        took = time.monotonic() - begun
         return f"a stop after {took:.2f} s"
 
 

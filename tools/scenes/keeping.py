@@ -18,7 +18,7 @@ import tempfile
 import threading
 import time
 
-from client import control, free_port, connect, answer, send
+from client import ask, control, free_port, connect, answer, send
 from scene import PROGRAM, check, main, size
 
 # What is said of a kept job's file that isn't as it was kept.
@@ -362,6 +362,79 @@ def a_server_of_so_many_connections_prints_what_waits():
         check(room.files("job") == ["1.job"] and not room.files("failed") and took < 3, f"{room.files('*')}, {took:.1f} s")
         os.close(pipe)
         return f"four, {took:.1f} s before the end"
+
+
+def a_trial_that_was_left():
+    """A file by which a server that was killed has tried a printer's folder is no obstacle to the next start, and is gone behind it."""
+    with Room() as room:
+        box = f"{room.folder}/box"
+        os.mkdir(box)
+        with open(f"{box}/.hurgwaye-trial", "w") as file:
+            file.write("left")
+        plain = room.line()
+        room.line = lambda: [*plain, "--printer", f"1=folder:{box}"]
+        room.start()
+        check(send(room.port, 1, b"a page") == 0, "a job isn't taken")
+        room.await_files(0)
+        check(os.listdir(box) == ["job-0000000001"], os.listdir(box))
+        return "gone"
+
+
+def a_job_of_many_files_waits():
+    """A kept job of as many data files as there may be is known as any while it waits, by the server that took it and by the next one, and is printed."""
+    with Room() as room:
+        room.start()
+        room.tell("hold", "lp")
+        names = [f"df{letter}001h1" for letter in (*map(chr, range(65, 91)), *map(chr, range(97, 123)))]
+        text = "".join(["Hh1\n", "Pann\n", *(f"f{name}\n" for name in names)]).encode()
+        lines = [b"\x02lp\n"]
+        for at, name in enumerate(names):
+            lines += [f"\x03{at + 1} {name}\n".encode(), b"%c" % (65 + at % 26) * (at + 1) + b"\0"]
+        lines += [f"\x02{len(text)} cfA001h1\n".encode(), text + b"\0"]
+        with contextlib.closing(connect(room.port)) as peer:
+            for line in lines:
+                peer.sendall(line)
+                check(answer(peer) == 0, f"{line[:20]} isn't taken")
+        for _ in range(2):
+            listed = ask(room.port, b"\x04lp\n")[0].decode()
+            check(" 001 ann h1 " in listed and all(f"  {name} {at + 1}\n" in listed for at, name in enumerate(names)), listed)
+            check(room.tell("remove", "lp", "bob").startswith("nothing removed"), "another's is removed")
+            room.kill()
+            room.start()
+            until = time.monotonic() + 10
+            while " 001 ann h1 " not in ask(room.port, b"\x04lp\n")[0].decode():
+                check(time.monotonic() < until, f"{room.tell('status')}: {room.log()[-300:]}")
+                time.sleep(0.05)
+        check("it isn't known whose" not in room.log(), room.log()[-300:])
+        room.tell("release", "lp")
+        room.await_files(0)
+        check(room.printed() == b"".join(b"%c" % (65 + at % 26) * (at + 1) for at in range(52)), len(room.printed()))
+        return "52 files"
+
+
+def what_is_removed_has_not_failed():
+    """A kept job that is removed, while it waits or while it is printed, isn't counted among those that have failed."""
+    with Room() as room:
+        os.mkfifo(f"{room.folder}/printer-1")
+        room.start()
+        check(send(room.port, 1, b"x" * 300_000) == 0, "a job isn't taken")
+        while " prints " not in room.tell("status"):
+            time.sleep(0.05)
+        room.tell("hold", "plotter")
+        check(send(room.port, 2, b"y" * 3_000, "plotter") == 0, "a job isn't taken")
+        for words in (("remove", "plotter", "ann"), ("remove", "lp", "ann"), ("cancel", "job", "1")):
+            room.tell(*words)
+        pipe = os.open(f"{room.folder}/printer-1", os.O_RDONLY | os.O_NONBLOCK)
+        until = time.monotonic() + 15
+        while room.files("job"):
+            check(time.monotonic() < until, room.files("*"))
+            with contextlib.suppress(BlockingIOError):
+                os.read(pipe, 65536)
+            time.sleep(0.01)
+        told = room.tell("status")
+        check("\nkept waiting 0 failed 0\n" in told and not room.files("failed"), told)
+        os.close(pipe)
+        return "none"
 
 
 def a_file_of_no_queue_is_not_cancelled():
@@ -769,7 +842,7 @@ def stopped_now_amid_a_pipe():
 
 
 SCENES = [killed_once, a_second_server, a_second_server_at_an_account, a_stop_has_nothing_more_printed, a_server_of_so_many_connections_prints_what_waits,
-          a_file_of_no_queue_is_not_cancelled, a_failed_job_is_sent_again, a_job_is_removed, files_that_are_no_jobs, changed_files_are_not_printed,
+          a_file_of_no_queue_is_not_cancelled, a_trial_that_was_left, a_job_of_many_files_waits, what_is_removed_has_not_failed, a_failed_job_is_sent_again, a_job_is_removed, files_that_are_no_jobs, changed_files_are_not_printed,
           whole_files_of_any_length, a_stopped_queue_has_none_in_the_spool, files_that_change_while_they_wait, a_hold_s_file_is_made_anew, a_full_disk,
           a_read_only_disk, a_folder_that_goes_away, stopped_now_amid_a_job, stopped_now_amid_a_pipe, many_kept_jobs, killed_at_random]
 

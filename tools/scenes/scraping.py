@@ -336,7 +336,8 @@ def curves_of_the_last_hour():
         page = page_of(port)
         return re.findall(r'<path class="rate" d="([^"]*)"', page), re.findall(r"<span>([^<]*)</span>", page.partition('id="rates"')[2].partition("</section>")[0])
 
-    with Clock() as clock, shown(env=clock.environment) as (it, port):
+    # (what comes to a printer that fails isn't printed)
+    with Clock() as clock, shown(spool(queues=("lp", "bad")), "--printer", "2=file:/dev/full", printers=2, env=clock.environment) as (it, port):
         check(drawn(port, clock, 0) == ([], []), "bars at the start")
         count = 0
         for minute, jobs in enumerate(minutes):
@@ -345,6 +346,9 @@ def curves_of_the_last_hour():
                 check(send(it.port, count, b"x" * octets) == 0, f"job {count} isn't taken")
             until(lambda: total(port, "hurgwaye_jobs_done_total") == count, f"{count} jobs aren't printed")
             check(minute or drawn(port, clock, 59) == ([], []), "bars at 59 s")
+            if not jobs:
+                check(send(it.port, 999, b"x" * 3_000, "bad") == 0, "a job of a printer that fails isn't taken")
+                until(lambda: total(port, "hurgwaye_jobs_failed_total") == 1, "it doesn't fail")
             curves, ticks = drawn(port, clock, 60 * (minute + 1))
         due = ["M3360 1000V750H3420V1000ZM3420 1000V0H3480V1000ZM3480 1000V500H3540V1000ZM3540 1000V1000H3600V1000Z",
                "M3360 1000V750H3420V1000ZM3420 1000V500H3480V1000ZM3480 1000V0H3540V1000ZM3540 1000V1000H3600V1000Z"]
@@ -406,6 +410,36 @@ def silences_are_those_of_who_is_there():
     return "four peers at two sessions"
 
 
+def a_printer_that_ends_no_connection():
+    """That a printer ends no connection is told once three have stayed open for ten seconds each behind their jobs, and not before; from then on it isn't waited for."""
+    with Clock() as clock, socket.socket() as there, contextlib.ExitStack() as opened:
+        there.bind(("127.0.0.1", 0))
+        there.listen(8)
+        there.settimeout(20)
+        place = f"1=socket://127.0.0.1:{there.getsockname()[1]}"
+        told = "it ended none of three connections: from now on that isn't waited for"
+        with Server(PROGRAM, spool(), "--printer", place, "--log-jobs", env=clock.environment) as it:
+            def has_ended(count):
+                return len(re.findall(r" done in ", it.log())) == count
+
+            for number in range(1, 5):
+                check(send(it.port, number, b"%d" % number * 1_000) == 0, f"job {number} isn't taken")
+                peer = opened.enter_context(there.accept()[0])
+                octets = b""
+                while piece := peer.recv(4_096):
+                    octets += piece
+                check(octets == b"%d" % number * 1_000, f"job {number}: {len(octets)} octets")
+                if number < 4:
+                    # (its end is waited for)
+                    clock.set(20 * number - 11)
+                    time.sleep(0.7)
+                    check(not has_ended(number), f"job {number} is done before its printer had ten seconds")
+                    clock.set(20 * number)
+                until(lambda: has_ended(number), lambda: f"job {number}: {it.log()[-300:]}")
+                check(it.log().count(told) == (number >= 3), f"behind job {number}: {it.log()[-300:]}")
+    return "after the third"
+
+
 def who_has_gone_leaves_nothing():
     """A peer whose place in the lobby another had before, who is served or has gone, is waited for as any: its half line is no line when that one ends, and takes no session."""
     with tempfile.TemporaryDirectory() as room, Server(PROGRAM, spool(), "--control", f"{room}/control", "--sessions", "1") as it:
@@ -451,6 +485,7 @@ SCENES = [
     times_on_the_page,
     curves_of_the_last_hour,
     silences_are_those_of_who_is_there,
+    a_printer_that_ends_no_connection,
     who_has_gone_leaves_nothing,
     peers_that_halt_hold_up_nobody,
     who_ends_no_line_is_told,

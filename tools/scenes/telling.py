@@ -87,6 +87,20 @@ def connections_are_told():
     return "four lines"
 
 
+def who_sends_on_and_on_is_left():
+    """A peer that is refused and sends on is left once a megabyte has come behind the end, long before the time that it has to leave is over."""
+    with Server(PROGRAM, spool(), device="/dev/null") as it, contextlib.closing(connect(it.port)) as peer:
+        peer.sendall(b"\x02nothing\n")
+        check(answer(peer) == 1, "it isn't refused")
+        begun, count = time.monotonic(), 0
+        with contextlib.suppress(OSError):
+            while time.monotonic() < begun + 10:
+                count += peer.send(b"x" * 65_536)
+        took = time.monotonic() - begun
+        check(took < 3 and count < 32 << 20, f"{count} octets in {took:.1f} s")
+        return f"{count / (1 << 20):.1f} MiB in {took:.2f} s"
+
+
 def a_warning_that_comes_again():
     """With --log a warning that one address causes again is counted, and told with how often it came; another one of that address is told at once, and one that
     came once isn't told again."""
@@ -223,7 +237,7 @@ def the_account_has_no_room():
     return "one line"
 
 
-SCENES = [refusals_name_their_job, connections_are_told, a_warning_that_comes_again, an_end_waits_for_lines_alone, no_descriptor_is_left, printers_are_told, folders_are_told,
+SCENES = [refusals_name_their_job, connections_are_told, who_sends_on_and_on_is_left, a_warning_that_comes_again, an_end_waits_for_lines_alone, no_descriptor_is_left, printers_are_told, folders_are_told,
           a_folder_of_many_files]
 
 # Told after a minute.
