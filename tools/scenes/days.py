@@ -6,7 +6,6 @@ lines of the log, `status`, the page, /metrics, what was printed) has to be the 
 these texts are written anew: then read the difference. A line says what was seen; the last line is 'N passed, M failed'."""
 import contextlib
 import difflib
-import fcntl
 import html
 import itertools
 import os
@@ -15,11 +14,10 @@ import socket
 import subprocess
 import sys
 import tempfile
-import threading
 import time
 import urllib.request
 
-from client import answer, ask, begin, connect, control, finish, free_port, send
+from client import Collector, Pipe, answer, ask, begin, connect, control, finish, free_port, send
 from keeping import small_disk
 from scene import PROGRAM, check, main
 from scraping import Clock
@@ -269,46 +267,6 @@ def job(port, number, user, files, queue="lp", host="127.0.0.1", name=None):
             if (octet := answer(peer)) != 0:
                 return octet
     return 0
-
-
-class Pipe:
-    """A printer's pipe of a page of the system, that is read when it is told to."""
-
-    def __init__(self, path):
-        os.mkfifo(path)
-        self.end = os.open(path, os.O_RDWR | os.O_NONBLOCK)
-        fcntl.fcntl(self.end, 1031, 4096)
-        self.octets = b""
-
-    def read(self, seconds=1.5):
-        until = time.monotonic() + seconds
-        while time.monotonic() < until:
-            with contextlib.suppress(BlockingIOError):
-                self.octets += os.read(self.end, 65536)
-                until = max(until, time.monotonic() + 0.5)
-            time.sleep(0.01)
-
-
-class Collector:
-    """A printer on the network at a port, which keeps what it is sent."""
-
-    def __init__(self, port):
-        self.there = socket.socket()
-        self.there.setsockopt(socket.SOL_SOCKET, socket.SO_REUSEADDR, 1)
-        self.there.bind(("127.0.0.1", port))
-        self.there.listen(8)
-        self.jobs = []
-        threading.Thread(target=self.serve, daemon=True).start()
-
-    def serve(self):
-        with contextlib.suppress(OSError):
-            while True:
-                peer, _ = self.there.accept()
-                octets = b""
-                while piece := peer.recv(1 << 16):
-                    octets += piece
-                self.jobs.append(octets)
-                peer.close()
 
 
 def in_memory():
