@@ -21,7 +21,7 @@ SURFACE = "test_surface"
 BESIDE = {it.name for it in os.scandir(os.path.join(TOP, "beside")) if it.is_dir()}
 
 # Crates that call the product and are no part of it.
-CALLERS = BESIDE | {"test_calls", "test_histories", "test_kept", "test_kit", "test_kit_seats", "test_program", "test_servers", "test_texts"}
+CALLERS = BESIDE | {"test_calls", "test_histories", "test_kept", "test_kit", "test_kit_seats", "test_clients", "test_program", "test_servers", "test_texts", "test_values"}
 
 COMMENT_OR_TEXT = re.compile(r"//.*|\"(?:[^\"\\]|\\[\s\S])*\"")
 CALL = re.compile(r"(?<!fn )\b(\w+)(?:::<[^;(]*>)?\(")

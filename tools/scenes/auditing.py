@@ -469,6 +469,11 @@ def what_was_used():
         told("--since 2026-11-26T22:00:10Z", bob, eve, none)
         told("--since 2026-11-26T22:00:10Z --until 2026-11-26T23:00:00Z", bob)
         told("--since 2026-11-27T22:00:10Z")
+        # jobs that haven't ended at the end of what is told count as well, in a table as in lines
+        for count in range(1, len(files) + 1):
+            lines, table = (subprocess.run([PROGRAM, "usage", *files[:count], *words], capture_output=True, text=True, timeout=60).stdout.splitlines() for words in ((), ("--csv",)))
+            lines = [tuple(re.fullmatch(r"(\S+) jobs (\d+) sent (\d+) printed (\d+)", line).groups()[1:]) for line in lines]
+            check(lines == [tuple(line.split(",")[1:]) for line in table[1:]], f"{count} files: {lines} {table}")
         return "all columns"
 
 

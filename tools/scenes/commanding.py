@@ -285,6 +285,10 @@ def segments_that_wait():
                 # (who writes them takes one)
                 time.sleep(0.3)
             check(number <= 3 and "segments of the account wait" in told, f"{number} segments wait: {told}")
+            # (it is tried again after one second, and after two: that is told once a minute)
+            time.sleep(0 if keeps else 3.5)
+            warned = room.log().count("No space left on device")
+            check(warned == 1, f"it is told {warned} times: {room.log()[-900:]}")
             if keeps:
                 # (who keeps room waits for a place once the account has none)
                 number = 0

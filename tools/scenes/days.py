@@ -748,6 +748,7 @@ PEERS = (
     ("no octets behind a command", b"\x05\n"),
     ("a second queue", b"\x02lp\n\x02lp\n"),
     ("an unknown command of a job", b"\x02lp\n\x07x\n"),
+    ("an unknown command behind a control file", b"\x02lp\n\x0221 cfA001h\nHh\nPann\nfdfA001h\nJlp\n\0\x07x\n"),
     ("a name that is none", b"\x02lp\n\x0310 xyz\n"),
     ("an abort", b"\x02lp\n\x01\n"),
     ("a file twice", b"\x02lp\n\x031 dfA001h\na\0\x031 dfA001h\na\0"),

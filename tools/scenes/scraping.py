@@ -202,6 +202,12 @@ def who_ends_no_line_is_told():
         took = time.monotonic() - start
         check(all(it in (400, 408) for it in told), told)
         check(took < 10, f"{took:.1f} s")
+        # (who ends its sending amid its head is told at once)
+        peer = open_to(port, b"GET / HTTP/1.1\r\nHost: lo")
+        peer.shutdown(socket.SHUT_WR)
+        start = time.monotonic()
+        halved = code(rest(peer))
+        check(halved == 408 and time.monotonic() - start < 1, f"{halved} after {time.monotonic() - start:.1f} s")
         return f"{told}, after {took:.1f} s"
 
 

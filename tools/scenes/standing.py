@@ -419,7 +419,7 @@ def kept_jobs_are_called_by_their_files():
         with served(spool(limit=64), *words[:3], device="fifo") as it:
             check(send(it.port, 6, b"x" * 100_000) == 0, "the third job isn't taken")
             line_of(it, "job 1 ", "number 006 file 2 ")
-            has(page(it), "file 2 (006)", "job 1\n")
+            check(re.search(r"file 2 \(006\)\s+job 1\n", page(it)), page(it))
             until(10, "the log", lambda: re.search(r"job 1 lp 006 ann@h1 .* received in [\d.]+ s file 2$", it.log(), re.M))
         return "file 2 (006), in `status`, on the page and in the log; another file 2 before and after a restart"
 

@@ -32,7 +32,7 @@ use std::rt::Clock;
 use std::sync::{Arc, Wait};
 use std::thread::Threads;
 use std::time::Duration;
-use std::{fmt, io, thread};
+use std::{io, thread};
 use terminal_writer::TerminalWriter;
 use word_actions::{
     ActionFault, PLACE_LINES, PROGRESS, ReadSpool, RunOutcome, System, ToldPlace, printers_of,
@@ -141,21 +141,15 @@ fn ended<O: OctetWrite + Drop, E: OctetWrite>(
 }
 
 /// What is told at a terminal where standard input is to be read, before anything is waited for.
-struct Reading;
-
-impl fmt::Display for Reading {
-    fn fmt<W: fmt::Write>(&self, f: &mut fmt::Formatter<W>) -> fmt::Result {
-        f.write_str(
-            "reading a configuration and a script from standard input (--help tells the words)",
-        )
-    }
+fn reading() -> &'static str {
+    "reading a configuration and a script from standard input (--help tells the words)"
 }
 
 /// Tells at a terminal that standard input is read where there are no words.
 fn tell_reading<W: Write + Drop>(rt: &HostRuntime, words: &[String], faults: &mut StreamWriter<W>) {
     if words.len() <= 1 && rt.stdin().is_terminal() {
         // Where standard error can't be written, nobody is there who waits for it.
-        let _ = tell(rt.alloc(), &Reading, faults);
+        let _ = tell(rt.alloc(), &reading(), faults);
     }
 }
 

@@ -4,7 +4,6 @@ ghost use Rattle.std.specs.Prelude.{IsSome};
 ghost use Rattle.receiver.specs.View.{BeginsSome, asked};
 
 use crate::calls::{self, BAD_ROW};
-use crate::kept::Kept;
 use crate::spool::Spool;
 use lpd_commands::{FileName, Refusal};
 use page_pool::PageTicket;
@@ -14,6 +13,7 @@ use spool_core::{Asked, Foreign, HandedPage, Next, Progress, Unremoved};
 use std::alloc::{AllocError, Global};
 use std::mem;
 use test_kit::rows::{number, octets, push_numbers, short_number, word};
+use test_kit_seats::Kept;
 
 /// A spool, and the pages that its jobs and printers keep.
 #[derive(Drop)]

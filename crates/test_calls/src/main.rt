@@ -8,7 +8,6 @@ mod cores;
 mod desk;
 mod entries;
 mod groups;
-mod kept;
 mod pieces;
 mod scripts;
 mod seated;

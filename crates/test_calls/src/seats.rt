@@ -40,18 +40,17 @@ fn push_segment(
     told: &mut String,
     alloc: Global,
     config: &Config,
-    segment: Segment,
+    segment: &mut Segment,
 ) -> Result<(), AllocError> {
-    let mut entries = segment.entries;
     let numbers = [
         ("segment", segment.number),
-        ("entries", entries.len() as u64),
+        ("entries", segment.entries.len() as u64),
         ("before", segment.before),
         ("kinds", segment.kinds_before),
         ("handed", segment.handed_before),
     ];
     push_numbers(told, &numbers)?;
-    for entry in entries.iter() {
+    for entry in segment.entries.iter() {
         told.push_str("\n  ")?;
         push_entry(told, entry)?;
     }
@@ -59,8 +58,8 @@ fn push_segment(
         told.push_str("\n  ")?;
         return push_numbers(told, &[("since", segment.since), ("freed", segment.freed)]);
     }
-    entries.reverse();
-    let legal = is_legal(alloc, config, &segment.base, entries.as_slice())?;
+    segment.entries.reverse();
+    let legal = is_legal(alloc, config, &segment.base, segment.entries.as_slice())?;
     told.push_str(if legal { "\n  legal" } else { "\n  not legal" })
 }
 
@@ -100,7 +99,7 @@ fn push_rotation<R: Wait, E: SpoolLedger, K: Ledger, H: Ledger>(
         seats.spool.trim(seats.rt)
     };
     match segment {
-        Ok(segment) => push_segment(told, alloc, core.config(), segment)?,
+        Ok(mut segment) => push_segment(told, alloc, core.config(), &mut segment)?,
         Err(error) => return write!(told, "refused {}", error.number()),
     }
     if !rotates {
@@ -183,9 +182,9 @@ fn push_finish<E: SpoolLedger, K: Ledger, H: Ledger>(
         Ok(segment) => Some(segment),
         Err(unfinished) => push_unfinished(told, unfinished, kept_back)?,
     };
-    if let Some(segment) = segment {
+    if let Some(mut segment) = segment {
         told.push_str("finish => ")?;
-        push_segment(told, alloc, config, segment)?;
+        push_segment(told, alloc, config, &mut segment)?;
     }
     told.push_str("\n")
 }

@@ -2,13 +2,13 @@
 #![tactic(auto)]
 
 #[cfg(test)]
+mod fault_texts;
+#[cfg(test)]
 mod faults;
 #[cfg(test)]
 mod kit;
 #[cfg(test)]
-mod log_queue;
-#[cfg(test)]
-mod values;
+mod word_rows;
 #[cfg(test)]
 mod words;
 #[cfg(test)]

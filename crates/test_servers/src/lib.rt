@@ -2,10 +2,10 @@
 #![tactic(auto)]
 
 #[cfg(test)]
-mod network;
-#[cfg(test)]
 mod scene_rows;
 #[cfg(test)]
 mod scenes;
 #[cfg(test)]
 mod servers;
+#[cfg(test)]
+mod serving;

@@ -31,40 +31,31 @@
 //! | `printed OCTETS`, `piped OCTETS` | what the printer's file has, or the pipe |
 //! | `faults OCTETS`, `logged OCTETS`, `log N` | the lines of faults in the log, the end of a line of it, how many lines it has |
 
-use crate::network::{
-    ENDLESS, PLOTTER, Paper, Pipe, Terminal, all_lines, ask_from, beside, connect, is_answered,
-    is_ended, make, octets_of, path, printed, remove, run, send, send_jobs, send_more, waits,
-    write,
-};
+use crate::serving::{beside, run};
 use log::{Level, Log, Logged};
 use log_lines::{LineLog, LineQueue, LogForm};
 use lpd_daemon::{Counter, Plan, ServerFault, Settings};
-use lpr_client::SendFault;
 use program_edge::{StreamReader, StreamWriter};
+use std::fs;
 use std::fs::{File, Files};
-use std::net::{Ipv4Addr, Net, OpenListener, Shutdown, TcpListener, TcpStream};
+use std::net::{Ipv4Addr, Net, OpenListener, TcpListener, TcpStream};
 use std::os::unix::fs::symlink;
 use std::process::Abort;
 use std::sync::Wait;
 use std::thread::Threads;
-use std::time::{Clock, Duration};
-use std::{fs, thread};
-use test_kit::Spool;
-use test_kit::rows::{number, octets, short_number, word};
+use std::time::Clock;
+use test_clients::{
+    Clients, ENDLESS, Paper, Pipe, Terminal, make, octets_in, path, printed, remove,
+};
+use test_kit::rows::{number, short_number, word};
+use test_kit::{Spool, all_lines};
 use word_actions::{RunOutcome, System, printers_of, read_config};
-
-/// How often it is looked for a line that comes soon, and how many milliseconds apart.
-const LOOKS: u32 = 40;
-
-const LOOK_MS: u64 = 100;
 
 /// How many lines may wait in a log that nobody reads before the end.
 const LOG_LINES: usize = 64;
 
-/// The octets that a text of a row stands for.
-fn octets_in<R: Abort + AllocGlobal>(rt: &R, text: &str) -> Vec<u8> {
-    octets(rt.alloc(), text).expect(rt, "memory")
-}
+/// What a configuration says of a queue `plotter`, beside a queue `lp`.
+const PLOTTER: &str = "[[queue]]\nname = \"plotter\"\nlimit = 3\nprinters = 1\n";
 
 /// What there is before a server starts.
 #[derive(Drop)]
@@ -86,7 +77,7 @@ impl<
 > Stage<'a, R> {
     /// A directory with nothing in it, and a small spool.
     fn new(rt: &'a R, name: &'a str) -> Stage<'a, R> {
-        make(rt, name);
+        make(rt, name).expect(rt, "a directory");
         Stage {
             rt,
             name,
@@ -103,18 +94,18 @@ impl<
     /// Something stands in the place of the printer's file.
     fn put(&mut self, what: &str, text: &str) {
         let rt = self.rt;
-        let file = path(rt, rt.alloc(), self.name, 1);
+        let file = path(rt.alloc(), self.name, 1).expect(rt, "memory");
         let file = file.as_str();
         match what {
             "printer" => fs::write(rt, file, text).expect(rt, "a file"),
             "link" => symlink(rt, text, file).expect(rt, "a link"),
             "folder" => fs::create_dir(rt, file).expect(rt, "a directory"),
             "pipe" => {
-                let pipe = Pipe::full(rt);
-                pipe.stand_for_printer(rt, self.name);
+                let pipe = Pipe::full().expect(rt, "a pipe");
+                pipe.stand_for_printer(rt, self.name).expect(rt, "a link");
                 self.pipe = Some(pipe);
             }
-            "nowhere" => remove(rt, self.name),
+            "nowhere" => remove(rt, self.name).expect(rt, "the directory is removed"),
             _ => panic!(rt; "{what} is nothing that is there before"),
         }
     }
@@ -160,125 +151,6 @@ impl<
     }
 }
 
-/// The clients of a server, and their connections by name.
-#[derive(Drop)]
-struct Clients<'a, R> {
-    rt: &'a R,
-    port: u16,
-    terminal: &'a Terminal,
-    pipe: &'a Option<Pipe>,
-    streams: Vec<(&'a str, TcpStream)>,
-}
-
-impl<
-    'a,
-    R: Abort + AllocGlobal + Clock + Files<File = File> + Net<Stream = TcpStream> + Wait,
-> Clients<'a, R> {
-    /// The connection of this name.
-    fn stream(&self, name: &str) -> &TcpStream {
-        let found = self.streams.iter().find(|stream| stream.0 == name);
-        &found.expect(self.rt, "a connection").1
-    }
-
-    /// A connection of this name.
-    fn keep(&mut self, name: &'a str, stream: TcpStream) {
-        self.streams.push((name, stream)).expect(self.rt, "memory");
-    }
-
-    /// Ends the connection of this name.
-    fn end(&mut self, name: &str) {
-        let place = self.streams.iter().position(|stream| stream.0 == name);
-        let place = place.expect(self.rt, "a connection");
-        if place < self.streams.len() {
-            self.streams.swap_remove(place);
-        }
-    }
-
-    /// A job over a connection of its own: it is taken, or refused by an octet.
-    fn job(&self, number: u32, text: &str, refused: Option<u8>) {
-        let stream = connect(self.rt, self.port);
-        let wanted = refused.map_or(Ok(()), |octet| Err(SendFault::Refused(octet)));
-        let sent = send(self.rt, &stream, number, text.as_bytes());
-        assert_eq!(self.rt; sent, wanted, "job {number}");
-    }
-
-    /// The output ends with this, after some looks at most.
-    fn tells(&self, text: &str, looks: u32) {
-        let wanted = octets_in(self.rt, text);
-        for _ in 0..looks {
-            let told = self.terminal.text(self.rt, false);
-            if told.as_bytes().ends_with(wanted.as_slice()) {
-                return;
-            }
-            thread::sleep(self.rt, Duration::from_millis(LOOK_MS));
-        }
-        panic!(self.rt; "the output doesn't end with {text}");
-    }
-
-    /// What is done with a connection.
-    fn act(&mut self, what: &str, name: &'a str, text: &str) {
-        let rt = self.rt;
-        let (count, rest) = word(text);
-        let (count, rest) = (short_number(count), rest.as_bytes());
-        match what {
-            "connect" => self.keep(name, connect(rt, self.port)),
-            "send" => {
-                let stream = connect(rt, self.port);
-                assert_eq!(rt; send(rt, &stream, count, rest), Ok(()));
-                self.keep(name, stream);
-            }
-            "deaf" => {
-                let line = octets_in(rt, text);
-                self.keep(name, ask_from(rt, 1, self.port, line.as_slice()));
-            }
-            "drop" => self.end(name),
-            "half" => {
-                let halved = self.stream(name).shutdown(Shutdown::Write);
-                halved.expect(rt, "the end");
-            }
-            "more" => send_more(rt, self.stream(name), count, rest),
-            "whole" => write(rt, self.stream(name), octets_of(rt, count, rest).as_slice()),
-            "write" => write(rt, self.stream(name), octets_in(rt, text).as_slice()),
-            "answered" => is_answered(rt, self.stream(name), octets_in(rt, text).as_slice()),
-            "waits" => waits(rt, self.stream(name)),
-            "ended" => is_ended(rt, self.stream(name)),
-            _ => panic!(rt; "{what} is nothing that a client does"),
-        }
-    }
-
-    /// Does what a line says.
-    fn play(&mut self, line: &'a str) {
-        let (what, text) = word(line);
-        let (first, rest) = word(text);
-        match what {
-            "job" => self.job(short_number(first), rest, None),
-            "refused" => {
-                let (number, text) = word(rest);
-                self.job(
-                    short_number(number),
-                    text,
-                    Some((short_number(first) & 0xff) as u8),
-                );
-            }
-            "jobs" => {
-                for number in 0..short_number(first) {
-                    self.job(number, "a job", None);
-                }
-            }
-            "long" => send_jobs(self.rt, self.port, 0, short_number(first)),
-            "pause" => thread::sleep(self.rt, Duration::from_millis(number(first))),
-            "empty" => {
-                if let Some(pipe) = self.pipe {
-                    pipe.empty(self.rt);
-                }
-            }
-            "tells" => self.tells(text, 1),
-            "comes" => self.tells(text, LOOKS),
-            _ => self.act(what, first, rest),
-        }
-    }
-}
-
 /// What came of a server.
 #[derive(Drop)]
 struct Ended<'a, R> {
@@ -316,10 +188,10 @@ impl<R: Abort + AllocGlobal + Files<File = File>> Ended<'_, R> {
                 let before = said.len().saturating_sub(wanted.len());
                 said.get(before..).unwrap_or(said)
             }
-            "printed" => return printed(rt, self.name, 1),
+            "printed" => return printed(rt, self.name, 1).expect(rt, "a printer's file"),
             "piped" => {
                 let pipe = self.pipe.as_ref().expect(rt, "a pipe");
-                return pipe.read(rt, wanted.len());
+                return pipe.read(rt, wanted.len()).expect(rt, "octets");
             }
             "faults" => return self.lines("fault ", "").into_bytes(),
             "logged" => {
@@ -345,7 +217,7 @@ impl<R: Abort + AllocGlobal + Files<File = File>> Ended<'_, R> {
             assert_eq!(rt; count, number(text), "{name}: {}", self.log);
             return;
         }
-        let wanted = octets_in(rt, text);
+        let wanted = octets_in(rt.alloc(), text).expect(rt, "memory");
         let found = self.found(what, wanted.as_slice());
         assert!(rt;
             found.as_slice() == wanted.as_slice(),
@@ -445,18 +317,13 @@ where
     let logged = Logged::new(rt, Level::Info, LineLog::new(rt, alloc, &queue));
     let terminal = Terminal::new(alloc, stage.paper);
     let (ended, said) = if stage.is_alone {
-        (run(&logged, &terminal, plan), terminal.text(rt, true))
+        let ended = run(&logged, &terminal, plan);
+        (ended, terminal.text(rt, true).expect(rt, "the server ends"))
     } else {
         beside(&logged, &terminal, plan, |port| {
-            let mut clients = Clients {
-                rt,
-                port,
-                terminal: &terminal,
-                pipe: &stage.pipe,
-                streams: Vec::new(alloc),
-            };
+            let mut clients = Clients::new(rt, port, &terminal, &stage.pipe);
             for line in lines.lines() {
-                clients.play(line);
+                assert!(rt; clients.play(line).is_some(), "{name}: {line}");
             }
         })
     };
@@ -465,7 +332,7 @@ where
         name,
         fault: text_of(rt, ended),
         said,
-        log: all_lines(rt, alloc, &queue),
+        log: all_lines(rt, alloc, &queue).expect(rt, "memory"),
         pipe: stage.pipe,
     }
 }

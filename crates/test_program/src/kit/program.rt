@@ -3,11 +3,11 @@
 use log::Log;
 use program_edge::{Limits, PrinterLimits, Settings, StreamReader, StreamWriter};
 use std::alloc::{AllocError, Global};
-use std::env;
 use std::fs::{File, Files};
 use std::net::{Ipv4Addr, Net, OpenListener, SocketAddr, TcpListener, TcpStream};
 use std::process::Abort;
 use std::rt::Env;
+use std::{env, fmt};
 use word_actions::{RunOutcome, ServeRequest, System, run};
 
 /// A configuration of one queue and one printer.
@@ -37,48 +37,101 @@ pub fn words_of(
     Ok(words)
 }
 
-/// How a server is to run, in a line.
-fn line_of(alloc: Global, config: &str, request: &ServeRequest) -> Result<String, AllocError> {
-    let printers = &request.printers;
-    let Settings {
-        port,
-        bind,
-        out,
-        sessions,
-        connections,
-        rotate,
-        keep_room,
-        limits,
-        allowed,
-        proxied,
-        control,
-        printers: _,
-        printer_limits,
-        restart_seconds,
-        spool,
-        parts,
-        account,
-        log,
-        log_jobs,
-        status,
-        status_host,
-    } = &request.settings;
-    let PrinterLimits {
-        patience_minutes,
-        silence_seconds,
-    } = *printer_limits;
-    let Limits {
-        silence,
-        per_host,
-        slowest,
-        no_job_seconds,
-        leave_seconds,
-        room_ms,
-    } = *limits;
-    let parts = if *parts { " parts" } else { "" };
-    format!(in alloc;
-        "serves {config} {port} {bind} {out} {sessions} {connections:?} {rotate:?} {silence:?} {per_host:?} {slowest:?} {no_job_seconds} {leave_seconds} {room_ms} {keep_room} {allowed:?} {proxied:?} {control:?} {printers:?} {patience_minutes:?} {silence_seconds:?} {restart_seconds:?} {spool:?} {account:?} {log:?} {log_jobs} {status:?} {status_host:?}{parts}\n"
-    )
+/// How a server is to run, as it is told in a line.
+#[derive(Clone, Copy)]
+struct ServeLine<'a> {
+    config: &'a str,
+    request: &'a ServeRequest<'a>,
+}
+
+/// Whom a server lets in, and for how long.
+#[derive(Clone, Copy)]
+struct LimitWords<'a>(&'a Limits);
+
+impl fmt::Display for LimitWords<'_> {
+    fn fmt<W: fmt::Write>(&self, f: &mut fmt::Formatter<W>) -> fmt::Result {
+        let Limits {
+            silence,
+            per_host,
+            slowest,
+            no_job_seconds,
+            leave_seconds,
+            room_ms,
+        } = *self.0;
+        write!(f, "{silence:?} {per_host:?} {slowest:?} ")?;
+        write!(f, "{no_job_seconds} {leave_seconds} {room_ms}")
+    }
+}
+
+/// What printers print to, and how long a server waits for them.
+#[derive(Clone, Copy)]
+struct PrinterWords<'a>(&'a ServeRequest<'a>);
+
+impl fmt::Display for PrinterWords<'_> {
+    fn fmt<W: fmt::Write>(&self, f: &mut fmt::Formatter<W>) -> fmt::Result {
+        let ServeRequest { printers, settings } = self.0;
+        let PrinterLimits {
+            patience_minutes,
+            silence_seconds,
+        } = settings.printer_limits;
+        let restart_seconds = settings.restart_seconds;
+        write!(f, "{printers:?} {patience_minutes:?} ")?;
+        write!(f, "{silence_seconds:?} {restart_seconds:?}")
+    }
+}
+
+impl fmt::Display for ServeLine<'_> {
+    fn fmt<W: fmt::Write>(&self, f: &mut fmt::Formatter<W>) -> fmt::Result {
+        let Settings {
+            port,
+            bind,
+            out,
+            sessions,
+            connections,
+            rotate,
+            keep_room,
+            limits,
+            allowed,
+            proxied,
+            control,
+            printers: _,
+            printer_limits: _,
+            restart_seconds: _,
+            spool,
+            parts,
+            account,
+            log,
+            log_jobs,
+            status,
+            status_host,
+        } = &self.request.settings;
+        let parts = if *parts { " parts" } else { "" };
+        write!(f, "serves {} {port} {bind} {out} ", self.config)?;
+        write!(f, "{sessions} {connections:?} {rotate:?} ")?;
+        write!(f, "{} {keep_room} ", LimitWords(limits))?;
+        write!(f, "{allowed:?} {proxied:?} {control:?} ")?;
+        write!(f, "{} ", PrinterWords(self.request))?;
+        write!(f, "{spool:?} {account:?} {log:?} {log_jobs} ")?;
+        writeln!(f, "{status:?} {status_host:?}{parts}")
+    }
+}
+
+/// What is told behind all that the program printed: its exit status, how a server is to run, or the path and the line of a command for one.
+fn end_of(alloc: Global, outcome: &RunOutcome) -> Result<Vec<u8>, AllocError> {
+    let text = match outcome {
+        RunOutcome::Ended(status) => format!(in alloc; "status {status}\n")?,
+        RunOutcome::Serve { config, request } => {
+            format!(in alloc; "{}", ServeLine { config, request })?
+        }
+        RunOutcome::Control(request) => {
+            let mut words = format!(in alloc; "controls {} ", request.path)?.into_bytes();
+            words.extend_from_slice(request.command.line(alloc)?.as_slice())?;
+            return Ok(words);
+        }
+        RunOutcome::Audit(request) => format!(in alloc; "audits {request:?}\n")?,
+        RunOutcome::Usage(request) => format!(in alloc; "uses {request:?}\n")?,
+    };
+    Ok(text.into_bytes())
 }
 
 /// What the program prints for these words and this input, its faults, and in a line of its own its exit status, how a server is to
@@ -95,26 +148,14 @@ pub fn told<
     let mut output = StreamWriter::new(Vec::new(alloc));
     let mut faults = StreamWriter::new(Vec::new(alloc));
     let mut input = StreamReader::new(input);
-    let outcome = run(
-        System { rt, host: rt },
-        words,
-        &mut input,
-        &mut output,
-        &mut faults,
-    );
+    let end = {
+        let system = System { rt, host: rt };
+        let outcome = run(system, words, &mut input, &mut output, &mut faults);
+        end_of(alloc, &outcome)
+    };
     let mut told = output.into_stream();
     told.extend_from_slice(faults.into_stream().as_slice())?;
-    let end = match &outcome {
-        RunOutcome::Ended(status) => format!(in alloc; "status {status}\n")?,
-        RunOutcome::Serve { config, request } => line_of(alloc, config, request)?,
-        RunOutcome::Control(request) => format!(in alloc; "controls {} ", request.path)?,
-        RunOutcome::Audit(request) => format!(in alloc; "audits {request:?}\n")?,
-        RunOutcome::Usage(request) => format!(in alloc; "uses {request:?}\n")?,
-    };
-    told.extend_from_slice(end.as_bytes())?;
-    if let RunOutcome::Control(request) = &outcome {
-        told.extend_from_slice(request.command.line(alloc)?.as_slice())?;
-    }
+    told.extend_from_slice(end?.as_slice())?;
     Ok(told)
 }
 

@@ -1,7 +1,7 @@
 //! The pages that the sessions of a spool's jobs keep, or its printers.
 
 use page_pool::PageTicket;
-use spool_core::HandedPage;
+use printer_worker::HandedPage;
 use std::alloc::{AllocError, AllocFailed, Global};
 
 /// A page that has to be spent.

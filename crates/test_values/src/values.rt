@@ -1,15 +1,12 @@
-//! Values through their public items: texts of faults, a page, and a job that is accepted.
+//! Values through their public items: texts of refusals, a page, and a job that is accepted.
 
-use crate::kit::expect;
 use claims::OpenError;
 use counts::TooLarge;
 use lpd_commands::Refusal;
-use lpr_client::SendFault;
 use page_chain::ChainError;
 use page_pool::Pool;
 use queues::Book;
 use std::test::Fail;
-use word_actions::{ActionFault, PlacesFault};
 
 /// Refusals as they are printed, with their numbers and the octets that are sent.
 const REFUSALS: &str = "\
@@ -39,55 +36,15 @@ fn refusals(rt: HostRuntime) {
 }
 
 #[test]
-fn texts_of_faults(rt: HostRuntime) {
+fn texts_of_tables(rt: HostRuntime) {
     let alloc = rt.alloc();
     let (over, full, memory) = (OpenError::OverCapacity, OpenError::Full, OpenError::Memory);
     let text = format!(in alloc; "{} {over} {full} {memory}", TooLarge).expect(&rt, "memory");
-    let wanted = b"23 TooLarge 21 OverCapacity 22 Full 12 Memory";
-    expect(&rt, b"tables", text.as_bytes(), wanted);
+    let wanted = "23 TooLarge 21 OverCapacity 22 Full 12 Memory";
+    assert_eq!(rt; text.as_str(), wanted);
     let (taken, full) = (ChainError::NameTaken, ChainError::FilesFull);
     let text = format!(in alloc; "{taken} {full}").expect(&rt, "memory");
-    expect(&rt, b"chains", text.as_bytes(), b"7 NameTaken 8 FilesFull");
-    let text = String::from_str(alloc, "printer 9 isn't there: 9=file:x");
-    let text = text.expect(&rt, "memory");
-    let faults: [(ActionFault, &[u8]); 11] = [
-        (
-            ActionFault::Send(SendFault::Refused(1)),
-            b"fault 60 Refused 1",
-        ),
-        (ActionFault::Send(SendFault::Cut), b"fault 61 Cut"),
-        (
-            ActionFault::Send(SendFault::ReadFault),
-            b"fault 62 ReadFault",
-        ),
-        (
-            ActionFault::Send(SendFault::WriteFault),
-            b"fault 63 WriteFault",
-        ),
-        (ActionFault::Send(SendFault::Memory), b"fault 12 Memory"),
-        (ActionFault::Memory, b"fault 12 Memory"),
-        (ActionFault::Network, b"fault 72 Network"),
-        (
-            ActionFault::Run(lpd_script::Fault::WriteFile),
-            b"fault 73 WriteFile",
-        ),
-        (
-            ActionFault::Printer(text),
-            b"printer 9 isn't there: 9=file:x",
-        ),
-        (
-            ActionFault::Places(PlacesFault::NotToml),
-            b"fault 50 NotToml",
-        ),
-        (
-            ActionFault::Places(PlacesFault::WrongType),
-            b"fault 52 WrongType queue.places",
-        ),
-    ];
-    for (fault, wanted) in faults {
-        let text = fault.to_string(alloc).expect(&rt, "memory");
-        expect(&rt, b"a fault", text.as_bytes(), wanted);
-    }
+    assert_eq!(rt; text.as_str(), "7 NameTaken 8 FilesFull");
 }
 
 /// SHA-256 of `abc` (FIPS 180-4).

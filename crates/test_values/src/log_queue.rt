@@ -31,7 +31,7 @@ fn two_lines_wait(rt: HostRuntime) {
     assert_eq!(rt;
         str::from_utf8(written.as_slice()),
         Ok(
-            "fault 72 Network\n[WARN  test_program::log_queue] line 1\n[WARN ] 2 lines were dropped\n",
+            "fault 72 Network\n[WARN  test_values::log_queue] line 1\n[WARN ] 2 lines were dropped\n",
         )
     );
 }
