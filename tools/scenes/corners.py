@@ -61,6 +61,21 @@ def a_stop_is_refused_behind_lines():
     return f"{told.stdout.strip()!r}, and the fault"
 
 
+def what_is_lost_is_told_once():
+    """Each job that a `stop now` loses is told once, also of hundreds, and where nothing was left to do at that moment, so that the end would have come by itself."""
+    count, text = 600, "pages = 1024\npage_size = 64\nmax_jobs = 700\naccount = 4000000\n" + queue("lp", 4)
+    with Room(text, keeps=False) as room:
+        room.start()
+        room.tell("hold", "lp")
+        for number in range(count):
+            check(send(room.port, number, b"x" * 10) == 0, "a job isn't taken")
+        room.tell("stop", "now")
+        room.server.wait(20)
+        told = sorted(map(int, re.findall(r"job (\d+) lp ann@h1 10 octets is lost", room.log())))
+        check(told == list(range(1, count + 1)), f"{len(told)} lines, of {len(set(told))} jobs")
+    return f"{count} of {count}"
+
+
 def a_queue_that_starts_again_late():
     """With `--restart 900` a printer that failed is started again a quarter of an hour later, and not before."""
     with Clock() as clock, tempfile.TemporaryDirectory() as folder:
@@ -350,7 +365,7 @@ def a_page_has_the_age_of_each_job():
     return f"{lengths[0]} octets at last, and each job's age"
 
 
-SCENES = [a_page_has_the_age_of_each_job, two_printers_are_started, a_stop_is_refused_behind_lines, a_queue_that_starts_again_late, a_later_queue_starts_again_soon, removals_pass_over_a_file_that_is_gone,
+SCENES = [a_page_has_the_age_of_each_job, two_printers_are_started, a_stop_is_refused_behind_lines, what_is_lost_is_told_once, a_queue_that_starts_again_late, a_later_queue_starts_again_soon, removals_pass_over_a_file_that_is_gone,
           a_full_pool_names_its_queue, queues_are_fed_in_turn, a_file_where_a_pipe_was, a_job_s_file_that_is_not_synced, a_client_that_drips_holds_up_no_restart, a_warning_that_comes_each_half_minute,
           what_stands_behind_a_command, a_foreign_file_beside_segments, the_last_printer_is_not_reached, who_goes_on_gives_no_way]
 

@@ -415,8 +415,7 @@ def drawn(name, seed, count, queues, config, *words, pipe=False, keeps=False, pa
             it.pipe.read(0.5)
         it.tell("octets over the network", " ".join(str(len(octets)) for octets in printer.jobs))
         it.tell("the end", "\n".join(it.stops("stop", "now")) + "\n" + it.text_of("said"))
-        # (a job that is lost is told once or twice)
-        it.tell("log: the end", "\n".join(sorted(set(it.plain(it.text_of("log")[it.read:]).splitlines()))))
+        it.tell("log: the end", "\n".join(sorted(it.plain(it.text_of("log")[it.read:]).splitlines())))
         segments = sorted(f"{it.folder}/account/{file}" for file in os.listdir(f"{it.folder}/account")) if os.path.isdir(f"{it.folder}/account") else []
         if segments:
             it.runs("audit", "audit", *segments, "--printed", f"3={it.folder}/paper-1", "--printed", f"4={it.folder}/box")

@@ -150,12 +150,34 @@ impl<R: Files<File = File> + Clock + Log + Wait, E: HouseLedger> Care<'_, '_, R,
         }
     }
 
-    /// Tells of each job that is held that it is lost, where the server is stopped.
+    /// Tells of each job that is held that it is lost, where the server is stopped, and where it wasn't told yet.
     pub fn tell_all_lost(&self) {
-        if self.hall.ending.stops() {
+        if !self.hall.ending.stops() {
+            return;
+        }
+        let mut is_told = self.hall.ending.lost_is_told.lock(self.hall.rt);
+        if !*is_told {
             self.tell_lost_of(false);
             self.tell_lost_of(true);
+            *is_told = true;
         }
+    }
+
+    /// Ends the sessions, and tells what is lost where it wasn't told yet: nothing is left to do at this moment, perhaps, and then who closes
+    /// the spool tells it.
+    fn end_sessions(&self) {
+        let mut is_told = self.hall.ending.lost_is_told.lock(self.hall.rt);
+        // Before their sessions end them.
+        if !*is_told {
+            self.tell_lost_of(false);
+        }
+        // From here on no job is acknowledged: its session's octet 00 reaches nobody.
+        self.hall.posts.hang_up(self.hall.rt);
+        // Before a printer gives its job up, since it is waited for no more: that job is lost too.
+        if !*is_told {
+            self.tell_lost_of(true);
+        }
+        *is_told = true;
     }
 
     /// Waits for nothing any more: ends the sessions, tells what is lost, and closes the spool. A write that waits for its printer
@@ -166,12 +188,7 @@ impl<R: Files<File = File> + Clock + Log + Wait, E: HouseLedger> Care<'_, '_, R,
         }
         self.hall.ending.stop();
         let _ = self.hall.waker.wake();
-        // Before their sessions end them.
-        self.tell_lost_of(false);
-        // From here on no job is acknowledged: its session's octet 00 reaches nobody.
-        self.hall.posts.hang_up(self.hall.rt);
-        // Before a printer gives its job up, since it is waited for no more: that job is lost too.
-        self.tell_lost_of(true);
+        self.end_sessions();
         self.spool.close(self.hall.rt, seat);
         self.hall.ending.cut_off();
     }

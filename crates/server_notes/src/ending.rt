@@ -7,6 +7,7 @@
 //!     +----------------- the last connection was served, nothing is left to do ------+
 //! ```
 
+use std::sync::Mutex;
 use std::sync::atomic::{AtomicBool, Ordering};
 
 /// How far the end of a server has come. It never goes back.
@@ -15,6 +16,8 @@ pub struct ServerEnding {
     stops: AtomicBool,
     cuts_off: AtomicBool,
     closed: AtomicBool,
+    /// Whether the jobs that are lost were told. Who tells them holds it meanwhile, and closes the spool behind that: so each is told once.
+    pub lost_is_told: Mutex<bool>,
 }
 
 impl ServerEnding {
@@ -24,6 +27,7 @@ impl ServerEnding {
             stops: AtomicBool::new(false),
             cuts_off: AtomicBool::new(false),
             closed: AtomicBool::new(false),
+            lost_is_told: Mutex::new(false),
         }
     }
 
