@@ -14,7 +14,7 @@ import threading
 import time
 
 from auditing import Books
-from client import Pipe, Server, answer, begin, connect, free_port, send, spool
+from client import Pipe, Server, answer, begin, connect, finish, free_port, send, spool
 from days import queue
 from parking import Room, config
 from scene import PROGRAM, check, main
@@ -167,6 +167,22 @@ def said(room, line):
         while piece := peer.recv(65536):
             text += piece
     return text.decode(errors="replace")
+
+
+def a_session_is_woken_beside_a_printer():
+    """Where a job gets whole, its printer begins, and at the same moment a session that waited for the pages that were kept for that job goes on, though the printer takes nothing."""
+    with Room("pages = 16\npage_size = 1024\nmax_jobs = 8\naccount = 400000\n" + queue("lp", 16), keeps=False) as room:
+        pipe = Pipe(room.path(1))
+        os.write(pipe.end, b"z" * 4096)
+        room.start()
+        with contextlib.closing(begin(room.port, 1, 8_192, b"x" * 3_072)) as first:
+            until(lambda: "3 of 8 pages came" in room.tell("status"), lambda: room.tell("status"))
+            with contextlib.closing(begin(room.port, 2, 12_288, b"y" * 4_000, host="127.0.0.2")):
+                until(lambda: "those free are kept for job 1" in room.tell("status"), lambda: room.tell("status"))
+                check(finish(first, 1, b"x" * 5_120) == 0, "the first job isn't taken")
+                until(lambda: "3 of 12 pages came" in room.tell("status") or "4 of 12 pages came" in room.tell("status"), lambda: room.tell("status"), 8)
+        del pipe
+    return "it goes on"
 
 
 def queues_are_fed_in_turn():
@@ -366,7 +382,7 @@ def a_page_has_the_age_of_each_job():
 
 
 SCENES = [a_page_has_the_age_of_each_job, two_printers_are_started, a_stop_is_refused_behind_lines, what_is_lost_is_told_once, a_queue_that_starts_again_late, a_later_queue_starts_again_soon, removals_pass_over_a_file_that_is_gone,
-          a_full_pool_names_its_queue, queues_are_fed_in_turn, a_file_where_a_pipe_was, a_job_s_file_that_is_not_synced, a_client_that_drips_holds_up_no_restart, a_warning_that_comes_each_half_minute,
+          a_full_pool_names_its_queue, a_session_is_woken_beside_a_printer, queues_are_fed_in_turn, a_file_where_a_pipe_was, a_job_s_file_that_is_not_synced, a_client_that_drips_holds_up_no_restart, a_warning_that_comes_each_half_minute,
           what_stands_behind_a_command, a_foreign_file_beside_segments, the_last_printer_is_not_reached, who_goes_on_gives_no_way]
 
 if __name__ == "__main__":

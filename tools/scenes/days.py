@@ -228,7 +228,7 @@ class Day:
         if WRITES:
             os.makedirs(TEXTS, exist_ok=True)
             with open(f"{TEXTS}/{self.name}.txt", "w") as file:
-                file.write(f"What the day `{self.name}` of days.py has to tell, step by step.\n")
+                file.write(f"What the day `{self.name}` of {os.path.basename(sys.argv[0])} has to tell, step by step.\n")
                 file.writelines(f"\n## {title}\n{text}\n" for title, text in self.seen)
 
 
