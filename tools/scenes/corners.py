@@ -255,10 +255,12 @@ def a_job_s_file_that_is_not_synced():
     return names[0]
 
 
-def a_client_that_drips_holds_up_no_restart():
-    """While clients of the control socket come and go, and one sends an octet now and then, a printer that failed is started again in time."""
-    with Room(POOL + queue("lp", 8), "--restart", "2", keeps=False) as room:
+def clients_that_drip_hold_up_nothing():
+    """While clients of the control socket come and go, and send an octet now and then, a printer that failed is started again in time, and a `stop 3` ends the server after three
+    seconds, though a pipe takes nothing."""
+    with Room(POOL + queue("lp", 8) + queue("plotter", 16), "--restart", "2", keeps=False) as room:
         os.symlink("/dev/full", room.path(1))
+        pipe = Pipe(room.path(2))
         room.start()
         going = True
 
@@ -273,16 +275,24 @@ def a_client_that_drips_holds_up_no_restart():
         threads = [threading.Thread(target=drips, daemon=True) for _ in range(3)]
         for thread in threads:
             thread.start()
-        check(send(room.port, 1, b"x" * 100) == 0, "a job isn't taken")
+        check(send(room.port, 1, b"x" * 100) == 0 and send(room.port, 2, b"x" * 9_000, "plotter") == 0, "a job isn't taken")
         begun = time.monotonic()
-        until(lambda: "No space left" in room.log(), room.log)
         until(lambda: re.search(r"queue lp (is started|starts) again", room.log()), room.log, 8)
-        took = time.monotonic() - begun
-        going = False
+        restarted, begun = time.monotonic() - begun, time.monotonic()
+        asked = subprocess.Popen([PROGRAM, "control", room.control, "stop", "3"], stdout=subprocess.DEVNULL, stderr=subprocess.DEVNULL)
+        try:
+            room.server.wait(12)
+        except subprocess.TimeoutExpired as error:
+            raise AssertionError("it doesn't stop") from error
+        finally:
+            asked.kill()
+            asked.wait()
+        stopped, going = time.monotonic() - begun, False
         for thread in threads:
             thread.join()
-        check(took < 5, f"after {took:.1f} s")
-    return f"after {took:.1f} s"
+        check(restarted < 5 and stopped < 6.5, f"after {restarted:.1f} and {stopped:.1f} s")
+        del pipe
+    return f"after {restarted:.1f} and {stopped:.1f} s"
 
 
 def a_warning_that_comes_each_half_minute():
@@ -382,7 +392,7 @@ def a_page_has_the_age_of_each_job():
 
 
 SCENES = [a_page_has_the_age_of_each_job, two_printers_are_started, a_stop_is_refused_behind_lines, what_is_lost_is_told_once, a_queue_that_starts_again_late, a_later_queue_starts_again_soon, removals_pass_over_a_file_that_is_gone,
-          a_full_pool_names_its_queue, a_session_is_woken_beside_a_printer, queues_are_fed_in_turn, a_file_where_a_pipe_was, a_job_s_file_that_is_not_synced, a_client_that_drips_holds_up_no_restart, a_warning_that_comes_each_half_minute,
+          a_full_pool_names_its_queue, a_session_is_woken_beside_a_printer, queues_are_fed_in_turn, a_file_where_a_pipe_was, a_job_s_file_that_is_not_synced, clients_that_drip_hold_up_nothing, a_warning_that_comes_each_half_minute,
           what_stands_behind_a_command, a_foreign_file_beside_segments, the_last_printer_is_not_reached, who_goes_on_gives_no_way]
 
 if __name__ == "__main__":
