@@ -206,6 +206,32 @@ def queues_are_fed_in_turn():
     return ", ".join(fed)
 
 
+def a_queue_without_room_holds_up_no_other():
+    """Where the account has no room for the first waiting job of a queue, and isn't rotated, the jobs that wait for another queue are printed all the same."""
+    text = "pages = 64\npage_size = 1024\nmax_jobs = 16\naccount = 13000\n" + queue("big", 60) + queue("small", 3)
+    with tempfile.TemporaryDirectory() as folder, Server(PROGRAM, text, "--spool", f"{folder}/kept", "--control", f"{folder}/control", printers=0) as it:
+
+        def tell(*words):
+            return subprocess.run([PROGRAM, "control", f"{folder}/control", *words], capture_output=True, text=True, timeout=30).stdout
+
+        def printed():
+            with contextlib.suppress(FileNotFoundError):
+                return open(it.path(2), "rb").read()
+
+        for number in (1, 2):
+            check(send(it.port, number, b"a", "small") == 0, "a job isn't taken")
+            until(lambda: printed() == b"a" * number, it.log)
+        for name in ("big", "small"):
+            tell("hold", name)
+        for name, octets in (("big", b"b" * 2_000), ("small", b"c"), ("small", b"d")):
+            check(send(it.port, 3, octets, name) == 0, "a job isn't taken")
+        for name in ("big", "small"):
+            tell("release", name)
+        until(lambda: printed() == b"aacd", lambda: f"{printed()}: {tell('status')}", 10)
+        check("parked big 1" in tell("status"), tell("status"))
+    return "the other two"
+
+
 def a_file_where_a_pipe_was():
     """A regular file in the place of what was a printer's pipe can't be compared with the account: it is told that it isn't judged."""
     with Books("--keep-room") as room:
@@ -391,9 +417,27 @@ def a_page_has_the_age_of_each_job():
     return f"{lengths[0]} octets at last, and each job's age"
 
 
-SCENES = [a_page_has_the_age_of_each_job, two_printers_are_started, a_stop_is_refused_behind_lines, what_is_lost_is_told_once, a_queue_that_starts_again_late, a_later_queue_starts_again_soon, removals_pass_over_a_file_that_is_gone,
-          a_full_pool_names_its_queue, a_session_is_woken_beside_a_printer, queues_are_fed_in_turn, a_file_where_a_pipe_was, a_job_s_file_that_is_not_synced, clients_that_drip_hold_up_nothing, a_warning_that_comes_each_half_minute,
-          what_stands_behind_a_command, a_foreign_file_beside_segments, the_last_printer_is_not_reached, who_goes_on_gives_no_way]
+SCENES = [
+    a_page_has_the_age_of_each_job,
+    two_printers_are_started,
+    a_stop_is_refused_behind_lines,
+    what_is_lost_is_told_once,
+    a_queue_that_starts_again_late,
+    a_later_queue_starts_again_soon,
+    removals_pass_over_a_file_that_is_gone,
+    a_full_pool_names_its_queue,
+    a_session_is_woken_beside_a_printer,
+    queues_are_fed_in_turn,
+    a_queue_without_room_holds_up_no_other,
+    a_file_where_a_pipe_was,
+    a_job_s_file_that_is_not_synced,
+    clients_that_drip_hold_up_nothing,
+    a_warning_that_comes_each_half_minute,
+    what_stands_behind_a_command,
+    a_foreign_file_beside_segments,
+    the_last_printer_is_not_reached,
+    who_goes_on_gives_no_way,
+]
 
 if __name__ == "__main__":
     sys.exit(main(SCENES, __doc__))
