@@ -14,24 +14,17 @@ import threading
 import time
 
 from auditing import Books
-from client import Pipe, Server, answer, begin, connect, finish, free_port, send, spool
+from client import Pipe, Server, answer, ask, begin, connect, finish, free_port, send, spool
 from days import queue
 from parking import Room, config
 from scene import PROGRAM, check, main
-from scraping import Clock, open_to, rest, shown
+from scraping import Clock, command, open_to, rest, shown, until
 
 POOL = "pages = 64\npage_size = 1024\nmax_jobs = 16\naccount = 400000\n"
 
 
-def until(holds, text, seconds=20):
-    end = time.monotonic() + seconds
-    while not holds():
-        check(time.monotonic() < end, text() if callable(text) else text)
-        time.sleep(0.05)
-
-
 def two_printers_are_started():
-    """A queue both of whose printers stand still is started by one command, which tells both, and so does the log by one line of the protocol."""
+    """A queue both of whose printers stand still is started by one command, which tells both."""
     with Room(POOL + queue("lp", 8, 2), keeps=False) as room:
         for number in (1, 2):
             os.symlink("/dev/full", room.path(number))
@@ -100,8 +93,7 @@ def a_later_queue_starts_again_soon():
         with Server(PROGRAM, text, "--restart", "20", "--printer", f"box=folder:{box}", "--control", f"{folder}/control", printers=3, env=clock.environment) as it:
 
             def is_stopped():
-                told = subprocess.run([PROGRAM, "control", f"{folder}/control", "status"], capture_output=True, text=True, timeout=30)
-                return "printer 4 box stopped" in told.stdout
+                return "printer 4 box stopped" in command(f"{folder}/control", "status")
 
             def fails(number, seconds, pause):
                 """The printer's folder is gone, a job fails, and its queue starts again so much later."""
@@ -144,7 +136,7 @@ def a_full_pool_names_its_queue():
 def removals_pass_over_a_file_that_is_gone():
     """A user's jobs that wait are removed, by `lprm` and by `remove`, also where the file of the first one was taken away, or can't be read."""
     seen = []
-    for asks in (lambda room: room.tell("remove", "lp", "ann"), lambda room: said(room, b"\x05lp ann 1 2 3 4\n")):
+    for asks in (lambda room: room.tell("remove", "lp", "ann"), lambda room: ask(room.port, b"\x05lp ann 1 2 3 4\n")[0].decode()):
         with Room(POOL + queue("lp", 8)) as room:
             room.start()
             room.tell("hold", "lp")
@@ -157,16 +149,6 @@ def removals_pass_over_a_file_that_is_gone():
             seen.append(sorted(re.findall(r"removed (\d+)", told)))
             check("002" in seen[-1] and "004" in seen[-1] and not os.path.exists(f"{room.kept}/4.job"), told)
     return f"{seen}"
-
-
-def said(room, line):
-    """What a line of the protocol is answered."""
-    with contextlib.closing(connect(room.port)) as peer:
-        peer.sendall(line)
-        text = b""
-        while piece := peer.recv(65536):
-            text += piece
-    return text.decode(errors="replace")
 
 
 def a_session_is_woken_beside_a_printer():
@@ -212,7 +194,7 @@ def a_queue_without_room_holds_up_no_other():
     with tempfile.TemporaryDirectory() as folder, Server(PROGRAM, text, "--spool", f"{folder}/kept", "--control", f"{folder}/control", printers=0) as it:
 
         def tell(*words):
-            return subprocess.run([PROGRAM, "control", f"{folder}/control", *words], capture_output=True, text=True, timeout=30).stdout
+            return command(f"{folder}/control", *words)
 
         def printed():
             with contextlib.suppress(FileNotFoundError):
@@ -401,7 +383,7 @@ def who_goes_on_gives_no_way():
 def a_page_has_the_age_of_each_job():
     """The page has each job's age, also where the first one has no page yet, and HEAD is answered with the length that GET has at the same moment."""
     with Clock() as clock, tempfile.TemporaryDirectory() as folder, shown(spool(queues=("lp", "plotter")), "--control", f"{folder}/control", printers=2, env=clock.environment) as (it, port):
-        subprocess.run([PROGRAM, "control", f"{folder}/control", "hold", "lp"], check=True, timeout=30, stdout=subprocess.DEVNULL)
+        command(f"{folder}/control", "hold", "lp")
         with contextlib.closing(begin(it.port, 1, 5_000, b"", "plotter")):
             clock.set(50)
             for number in (2, 3):

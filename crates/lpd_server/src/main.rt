@@ -140,7 +140,8 @@ fn ended<O: OctetWrite + Drop, E: OctetWrite>(
     4
 }
 
-/// What is told at a terminal where standard input is to be read, before anything is waited for.
+/// What is told at a terminal where standard input is to be read, before anything is waited for. A function without a clause, and no constant: a
+/// contract that speaks of each octet of this text is dear to prove.
 fn reading() -> &'static str {
     "reading a configuration and a script from standard input (--help tells the words)"
 }
